@@ -8,13 +8,13 @@ use cli_args::ThinOptions;
 use journal_compaction::{CompactFault, Counts, compact_folder};
 use journal_folder::FolderFault;
 use mds_text::Moment;
-use server_admission::moment_of;
+use server_admission::{MachineClock, Moments};
 use std::alloc::AllocGlobal;
 use std::fs::{self, File, Files};
 use std::io::Print;
 use std::mem::drop;
 use std::sync::Wait;
-use std::time::{Clock, SystemTime, UNIX_EPOCH};
+use std::time::Clock;
 
 /// Whether a fault may leave remains of a compacted journal next to the journal. Where another program has the folder,
 /// what stands there may be that one's.
@@ -50,17 +50,10 @@ fn bytes_of<R: Files<File = File> + AllocGlobal>(rt: &R, folder: &str) -> Result
     }
 }
 
-/// The moment of the machine's clock; none, where it is out of range or can't be read.
-fn clock_moment<R: Clock>(rt: &R) -> Option<Moment> {
-    let now = SystemTime::now(rt).ok()?;
-    let since = now.duration_since(UNIX_EPOCH).ok()?;
-    moment_of(since.as_secs(), since.subsec_millis())
-}
-
 /// The moment at which servers from both journals are asked: that of the machine's clock, or else the Unix epoch, since
 /// nothing that is asked depends on it.
 pub fn moment<R: Clock + Copy>(rt: &R) -> Moment {
-    match clock_moment(rt) {
+    match MachineClock(*rt).now() {
         Some(now) => now,
         None => Moment::new(0).unwrap(),
     }

@@ -1,20 +1,20 @@
-ghost use Rattle.std.specs.Prelude.{◌≡◌, ◌+◌, ◌^◌, ◌<◌, ◌≤◌, List, ℕ, Some, [], ◌∷◌, ◌++◌, All, IfOk, OnOk, if◌then◌else◌, length, map, nat_lt};
+ghost use Rattle.std.specs.Prelude.{◌≡◌, ◌^◌, ◌<◌, ◌≤◌, List, ℕ, Some, [], ◌∷◌, ◌++◌, All, IfOk, OnOk, length, map};
 ghost use Rattle.mds_geometry.specs.declared.position.Position.{Position};
-ghost use Rattle.mds_policy.specs.Policy.{policy_document, rule_document};
+ghost use Rattle.mds_policy.specs.Policy.{policy_document};
 ghost use Rattle.mds_match.specs.declared.local.Local.{Local as Time};
 ghost use Rattle.mds_match.specs.Matching.{first};
 ghost use Rattle.mds_match.specs.Row.{Row};
-ghost use Rattle.mds_verdict.specs.Verdict.{status_of, verdict_document, verdicts};
-ghost use Rattle.mds_verdict.specs.Gathered.{gathered_rule, gathered, shown};
+ghost use Rattle.mds_verdict.specs.Verdict.{verdict_document, verdicts};
+ghost use Rattle.mds_verdict.specs.Gathered.{gathered};
 ghost use Rattle.mds_bitmaps.specs.Columns.{AreOf, AreOfSome};
 
 use crate::bits::first_of;
-use crate::bounds::{adds_since, status_of};
+use crate::bounds::adds_since;
 use crate::open_rules::open_bitmap;
-use mds_match::{Local, open_at};
-use mds_policy::{Kind, Policy, Rule};
+use mds_match::Local;
+use mds_policy::Policy;
 use mds_text::{Id, Moment};
-use mds_verdict::{MOST_DEVICES, RuleVerdict, Status};
+use mds_verdict::{RuleVerdict, count_device, initial_verdicts, trim_verdicts};
 use std::alloc::{AllocError, Global};
 
 /// What a policy is evaluated by, for each vehicle of an operator, in the order of the device ids.
@@ -108,77 +108,7 @@ fn count(
 {
     let rule = &policy.rules()[number];
     if adds_since(rule.kind, rule.bounds, moment, since) {
-        count_in(&mut held[number], rule, device)?;
+        count_device(&mut held[number], rule, device)?;
     }
     Ok(())
-}
-
-/// Counts one more vehicle, and lists its device where fewer than `MOST_DEVICES` are listed.
-fn count_in(verdict: &mut RuleVerdict, rule: &Rule, device: Id) -> Result<(), AllocError>
-    requires { verdict.old.measure < 2 ^ 63 }
-    ensures { OnOk result (verdict_document verdict.new ≡ record (verdict_document verdict.old) {
-      status = status_of (rule_document rule.now).kind (rule_document rule.now).bounds (verdict.old.measure + 1);
-      measure = verdict.old.measure + 1;
-      devices = (if nat_lt (length verdict.old.devices.items) MOST_DEVICES then verdict.old.devices.items ++ device ∷ [] else verdict.old.devices.items);
-    }) }
-{
-    if verdict.devices.len() < MOST_DEVICES {
-        verdict.devices.push(device)?;
-    }
-    verdict.measure += 1;
-    verdict.status = status_of(rule.kind, rule.bounds, verdict.measure);
-    Ok(())
-}
-
-/// The verdicts on a policy's rules where there is no vehicle.
-fn initial_verdicts(
-    alloc: Global,
-    rules: &[Rule],
-    local: Local,
-) -> Result<Vec<RuleVerdict>, AllocError>
-    ensures { IfOk result (λ v. map verdict_document v.items ≡ map (λ r. gathered_rule (rule_document r) local []) rules.now) }
-{
-    let mut held = Vec::with_capacity(alloc, rules.len())?;
-    for rule in rules {
-        held.push(initial_verdict(alloc, rule, local))?;
-    }
-    Ok(held)
-}
-
-/// The verdict on a rule that counts no vehicle.
-fn initial_verdict(alloc: Global, rule: &Rule, local: Local) -> RuleVerdict
-    ensures { verdict_document result ≡ gathered_rule (rule_document rule.now) local [] }
-{
-    let status = if rule.kind == Kind::Other {
-        Status::NotEvaluated
-    } else if open_at(rule, local) {
-        status_of(rule.kind, rule.bounds, 0)
-    } else {
-        Status::Inactive
-    };
-    RuleVerdict {
-        rule: rule.id,
-        status,
-        measure: 0,
-        devices: Vec::new(alloc),
-    }
-}
-
-/// Drops the devices of the rules that aren't violated.
-fn trim_verdicts(held: &mut [RuleVerdict])
-    ensures { map verdict_document held.new ≡ map shown (map verdict_document held.old) }
-{
-    for verdict in held.iter_mut() {
-        trim_verdict(verdict);
-    }
-}
-
-/// Drops the devices of a rule that isn't violated, and the spare capacity of the list.
-fn trim_verdict(verdict: &mut RuleVerdict)
-    ensures { verdict_document verdict.new ≡ shown (verdict_document verdict.old) }
-{
-    if verdict.status != Status::Violated {
-        verdict.devices.clear();
-    }
-    verdict.devices.shrink_to_fit();
 }

@@ -9,7 +9,8 @@ use crate::failure::StartFailure;
 use crate::runtime::ServerRuntime;
 use mds_request::Config;
 use mds_snapshot::{Blank, prepare};
-use server_http::{MachineClock, Moments, Queues, bind_first};
+use server_admission::{MachineClock, Moments};
+use server_http::{Queues, bind_first};
 use server_start::{
     HELP, HallService, ServeCommand, ServeFault, VERSION, command_of, serve, workers,
 };

@@ -12,5 +12,5 @@ mod verdict;
 pub use bounds::{millis, within};
 pub use evaluator::{Evaluator, Plain};
 pub use report::report_tree;
-pub use tally::VerdictTally;
+pub use tally::{VerdictTally, count_device, initial_verdicts, trim_verdicts};
 pub use verdict::{MOST_DEVICES, RuleVerdict, Status};

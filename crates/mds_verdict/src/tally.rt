@@ -98,8 +98,12 @@ impl VerdictTally {
     }
 }
 
-/// The verdicts on a policy's rules where there is no vehicle.
-fn initial_verdicts(
+/// The verdicts on a policy's rules where there is no vehicle, in the rules' order, at a local time.
+///
+/// # Errors
+///
+/// Out of memory.
+pub fn initial_verdicts(
     alloc: Global,
     rules: &[Rule],
     local: Local,
@@ -137,14 +141,19 @@ fn count(
     if let Some(number) = number {
         let rule = &policy.rules()[number];
         if adds(rule.kind, rule.bounds, moment, vehicle) {
-            count_in(&mut held[number], rule, vehicle.device)?;
+            count_device(&mut held[number], rule, vehicle.device)?;
         }
     }
     Ok(())
 }
 
-/// Counts one more vehicle, and lists its device where fewer than `MOST_DEVICES` are listed.
-fn count_in(verdict: &mut RuleVerdict, rule: &Rule, device: Id) -> Result<(), AllocError>
+/// Counts one more vehicle, and lists its device where fewer than `MOST_DEVICES` are listed, whether
+/// the rule is violated or not.
+///
+/// # Errors
+///
+/// Out of memory.
+pub fn count_device(verdict: &mut RuleVerdict, rule: &Rule, device: Id) -> Result<(), AllocError>
     requires { verdict.old.measure < 2 ^ 63 }
     ensures { OnOk result (verdict_document verdict.new ≡ record (verdict_document verdict.old) {
       status = status_of (rule_document rule.now).kind (rule_document rule.now).bounds (verdict.old.measure + 1);
@@ -194,8 +203,8 @@ fn join_in(verdict: &mut RuleVerdict, rule: &Rule, later: &RuleVerdict) -> Resul
     Ok(())
 }
 
-/// Drops the devices of the rules that aren't violated.
-fn trim_verdicts(held: &mut [RuleVerdict])
+/// Drops the devices of the rules that aren't violated, once all vehicles are counted.
+pub fn trim_verdicts(held: &mut [RuleVerdict])
     ensures { map verdict_document held.new ≡ map shown (map verdict_document held.old) }
 {
     for verdict in held.iter_mut() {

@@ -1,7 +1,7 @@
 //! Serves a city with a control port.
 
 use crate::admin::AdminState;
-use crate::host::ThreadHost;
+use crate::host::ServerHost;
 use crate::opening::{ConfigWithText, serve_city};
 use crate::thread_job::{ThreadJob, run_concurrently};
 use cli_args::ServeOptions;
@@ -11,8 +11,6 @@ use server_http::ShutdownHandle;
 use std::alloc::AllocGlobal;
 use std::fs::{File, Files};
 use std::net::{Net, TcpListener, TcpStream};
-use std::sync::Wait;
-use std::thread::Threads;
 use std::time::Clock;
 
 /// Stops a server by its shutdown handle.
@@ -62,7 +60,7 @@ struct ControlledCity<'a> {
 /// that is closed before the port has woken wakes nobody.
 fn serve_and_end<R>(rt: &R, controlled: ControlledCity<'_>) -> (Result<(), ExitCause>, PortWaker)
 where
-    R: ThreadHost + Wait + Threads + Net + Files<File = File>,
+    R: ServerHost + Net + Files<File = File>,
 {
     let ControlledCity {
         service,
@@ -89,11 +87,7 @@ pub fn serve_controlled<R>(
     board: AdminState<'_>,
 ) -> Result<(), ExitCause>
 where
-    R: ThreadHost
-        + Wait
-        + Threads
-        + Net<Listener = TcpListener, Stream = TcpStream>
-        + Files<File = File>,
+    R: ServerHost + Net<Listener = TcpListener, Stream = TcpStream> + Files<File = File>,
 {
     let Ok(port) = Port::bind(rt, address, service.control_host) else {
         return Err(ExitCause::NoControl);

@@ -9,7 +9,7 @@ use crate::admin::AdminState;
 use crate::compactor::Compactor;
 use crate::file_swap::{FileJournal, JournalHandoff, JournalSwapper};
 use crate::folders::Folders;
-use crate::host::ThreadHost;
+use crate::host::{ServerHost, ThreadHost};
 use crate::listening::{BoundListener, listen};
 use crate::reporting_space::ReportingSpace;
 use crate::serving::{ServingParts, persist_and_serve};
@@ -117,7 +117,7 @@ pub fn serve_city<'a, R>(
     board: AdminState<'a>,
 ) -> Result<(), ExitCause>
 where
-    R: ThreadHost + Wait + Threads + Net + Files<File = File>,
+    R: ServerHost + Net + Files<File = File>,
 {
     let ConfigWithText { config, text } = given;
     let Folder {
@@ -158,7 +158,7 @@ where
 /// # Errors
 ///
 /// As `serve_city`.
-fn serve_and_close<R: ThreadHost + Wait + Threads + Files<File = File>>(
+fn serve_and_close<R: ServerHost + Files<File = File>>(
     rt: &R,
     opening: CityOpening<'_>,
 ) -> Result<(), ExitCause> {
@@ -173,7 +173,7 @@ fn serve_and_close<R: ThreadHost + Wait + Threads + Files<File = File>>(
 /// # Errors
 ///
 /// As `serve_city`.
-fn open_and_serve<R: ThreadHost + Wait + Threads + Files<File = File>>(
+fn open_and_serve<R: ServerHost + Files<File = File>>(
     rt: &R,
     opening: CityOpening<'_>,
 ) -> Result<(), ExitCause> {
@@ -191,7 +191,7 @@ fn open_and_serve<R: ThreadHost + Wait + Threads + Files<File = File>>(
 /// As `serve_city`.
 fn serve_with_swaps<
     B: CompactionSource<FileJournal, AnswersAgree> + Send,
-    R: ThreadHost + Wait + Threads + Files<File = File>,
+    R: ServerHost + Files<File = File>,
 >(rt: &R, opening: CityOpening<'_>, beside: B) -> Result<(), ExitCause> {
     let CityOpening {
         folder,
@@ -233,7 +233,7 @@ fn serve_journal<B: CompactionSource<FileJournal, AnswersAgree> + Send, S: Space
     stage: ServingParts<'_>,
 ) -> Result<(), ExitCause>
 where
-    R: ThreadHost + Wait + Threads + Files<File = File>,
+    R: ServerHost + Files<File = File>,
     requires { S.aside space ≡ 0 }
 {
     let mut aside = CutFiles::new(*rt, rt.alloc(), stage.folder)?;
@@ -265,7 +265,7 @@ fn serve_swap_log<
     stage: ServingParts<'_>,
 ) -> Result<(), ExitCause>
 where
-    R: ThreadHost + Wait + Threads,
+    R: ServerHost,
     requires listed { (first : List (List ℕ)) × L.may_be log first }
     requires space { S.aside space ≡ 0 }
 {
@@ -286,7 +286,7 @@ fn serve_log<L: Log + Send, S: Space + Send, R>(
     stage: ServingParts<'_>,
 ) -> Result<(), ExitCause>
 where
-    R: ThreadHost + Wait + Threads,
+    R: ServerHost,
     requires listed { (first : List (List ℕ)) × L.may_be log first }
     requires space { S.aside space ≡ 0 }
 {
@@ -300,7 +300,7 @@ where
 /// # Errors
 ///
 /// `Folder` where the log couldn't be read or begun, or as `start`.
-fn resume<K: HallName, L: Log, R: Wait + Eprint + AllocGlobal + Copy>(
+fn resume<K: HallName, L: Log, R: ThreadHost + Wait>(
     rt: &R,
     log: &mut L,
     config: Config,
@@ -333,7 +333,7 @@ fn serve_opening<K: HallName + Send + Sync, L: Log + Send, S: Space + Send, R>(
     stage: ServingParts<'_>,
 ) -> Result<(), ExitCause>
 where
-    R: ThreadHost + Wait + Threads,
+    R: ServerHost,
     requires book { book_of blank ≡ K.book }
     requires configured { configuration config ≡ K.configuration }
     requires listed { (first : List (List ℕ)) × L.may_be log first }

@@ -6,7 +6,7 @@ use crate::admin::AdminState;
 use crate::arguments::read_words;
 use crate::controlling::serve_controlled;
 use crate::counting::counters_of;
-use crate::host::ThreadHost;
+use crate::host::ServerHost;
 use crate::opening::{ConfigWithText, serve_city};
 use cli_args::{COMMIT, CliCommand, HELP, ServeOptions, VERSION, parse_command, version_line};
 use cli_journal::{
@@ -22,8 +22,7 @@ use std::fs::{File, Files};
 use std::io::{Eprint, Print};
 use std::mem::drop;
 use std::net::{Net, TcpListener, TcpStream};
-use std::sync::{Arc, Wait};
-use std::thread::Threads;
+use std::sync::Arc;
 
 /// The exit status of what was done.
 fn status_of(done: Result<u8, ExitCause>) -> u8
@@ -38,11 +37,7 @@ fn status_of(done: Result<u8, ExitCause>) -> u8
 /// Runs what the arguments ask for, reports faults on standard error, and gives the exit status.
 pub fn run<R>(rt: &R) -> u8
 where
-    R: ThreadHost
-        + Wait
-        + Threads
-        + Net<Listener = TcpListener, Stream = TcpStream>
-        + Files<File = File>
+    R: ServerHost + Net<Listener = TcpListener, Stream = TcpStream> + Files<File = File>
         + Env,
 {
     let words = match read_words(rt) {
@@ -66,11 +61,7 @@ where
 /// Runs what the arguments ask for, and gives the exit status.
 fn carry_out<R>(rt: &R, asked: &CliCommand<'_>) -> Result<u8, ExitCause>
 where
-    R: ThreadHost
-        + Wait
-        + Threads
-        + Net<Listener = TcpListener, Stream = TcpStream>
-        + Files<File = File>,
+    R: ServerHost + Net<Listener = TcpListener, Stream = TcpStream> + Files<File = File>,
 {
     let done = match asked {
         CliCommand::Help => print_text(rt, HELP),
@@ -149,11 +140,7 @@ fn stop_server<R: Net + AllocGlobal>(rt: &R, address: &str) -> Result<(), ExitCa
 /// The configuration's, the control port's, or the fault with which the city can't be opened or its server ends.
 fn serve<R>(rt: &R, service: &ServeOptions<'_>) -> Result<(), ExitCause>
 where
-    R: ThreadHost
-        + Wait
-        + Threads
-        + Net<Listener = TcpListener, Stream = TcpStream>
-        + Files<File = File>,
+    R: ServerHost + Net<Listener = TcpListener, Stream = TcpStream> + Files<File = File>,
 {
     let text = read_text_and_report(rt, rt.alloc(), service.config)?;
     let config = configuration_in(rt.alloc(), &text)?;

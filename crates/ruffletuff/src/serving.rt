@@ -5,7 +5,7 @@ ghost use Rattle.ruffletuff.specs.Ends.{outcome_of};
 
 use crate::admin::AdminState;
 use crate::counting::count_vehicles;
-use crate::host::ThreadHost;
+use crate::host::ServerHost;
 use crate::listening::BoundListener;
 use crate::thread_job::{ThreadJob, run_concurrently};
 use cli_journal::ExitCause;
@@ -21,7 +21,6 @@ use server_state::{Hall, HallName};
 use std::alloc::Global;
 use std::io::{self, Print};
 use std::sync::{Arc, Wait};
-use std::thread::Threads;
 
 /// What serving a city needs besides its state.
 #[derive(Drop)]
@@ -85,7 +84,7 @@ where
     N: LogName + Send + Sync,
     L: Log + Send,
     S: Space + Send,
-    R: ThreadHost + Wait + Threads,
+    R: ServerHost,
 {
     let SiteServer {
         listening,
@@ -134,7 +133,7 @@ where
     N: LogName + Send + Sync,
     L: Log + Send,
     S: Space + Send,
-    R: ThreadHost + Wait + Threads,
+    R: ServerHost,
     requires book { history.seen.book ≡ N.book }
     requires listed { (first : List (List ℕ)) × L.may_be log first }
     requires space { S.aside space ≡ 0 }
@@ -177,7 +176,7 @@ where
     N: LogName + Send + Sync,
     L: Log + Send,
     S: Space + Send,
-    R: ThreadHost + Wait + Threads,
+    R: ServerHost,
 {
     let board = stage.board;
     let site = Site::open(rt, city, Chunked(*rt), board.configuration, board.counters)?;

@@ -7,6 +7,7 @@ ghost use Rattle.journal_recovery.specs.Laws.{IsStartedAgain};
 ghost use Rattle.journal_recovery.specs.Recovery.{server_of};
 ghost use Rattle.ruffletuff.specs.Starting.{HasHead, IsStartedFrom, is_publication};
 
+use crate::host::ThreadHost;
 use crate::progress::ReplayProgress;
 use cli_config::Limits;
 use cli_journal::ExitCause;
@@ -86,7 +87,7 @@ fn publications(entries: &[JournalEntry<'_>]) -> usize
 ///
 /// `Folder` where the payloads aren't those of a journal of this configuration; `RefusedDocument` at the first entry that isn't
 /// answered with success; `NoMemory`.
-pub fn start<K: OpeningName, R: Wait + Eprint + AllocGlobal + Copy>(
+pub fn start<K: OpeningName, R: ThreadHost + Wait>(
     rt: &R,
     texts: &[Vec<u8>],
     config: Config,
@@ -138,7 +139,7 @@ fn report_limit<R: Eprint + AllocGlobal>(rt: &R, limits: &Limits, id: Id) {
 /// # Errors
 ///
 /// `RefusedDocument` at the first entry that isn't answered with success, `NoMemory`.
-fn replay_entries<K: OpeningName, R: Wait + Eprint + AllocGlobal + Copy>(
+fn replay_entries<K: OpeningName, R: ThreadHost + Wait>(
     rt: &R,
     config: Config,
     blank: Blank,

@@ -8,6 +8,7 @@ mod cost;
 mod head_phase;
 mod limits;
 mod moment;
+mod moments;
 mod slot;
 mod slow_client;
 mod waiting;
@@ -23,6 +24,7 @@ pub use limits::{
     STALL_SECONDS, limits_of_bodies, limits_of_connections, limits_of_times,
 };
 pub use moment::moment_of;
+pub use moments::{MachineClock, Moments};
 pub use slot::{Decision, slot_for};
 pub use slow_client::is_too_slow;
 pub use waiting::{Load, load_bytes_of, may_wait};

@@ -20,23 +20,23 @@ use tokio::time::Sleep;
 /// acceptor has no key.
 #[derive(Drop)]
 pub struct ConnHandle<A, C> {
-    house: Arc<ServerContext<A, C>>,
-    seat: Arc<ConnSlot>,
-    bell: Arc<ReactorNudge>,
+    context: Arc<ServerContext<A, C>>,
+    slot: Arc<ConnSlot>,
+    nudge: Arc<ReactorNudge>,
     key: Option<usize>,
 }
 
 impl<A, C> ConnHandle<A, C> {
     /// The acceptor's handle.
     pub fn acceptor(
-        house: Arc<ServerContext<A, C>>,
-        seat: Arc<ConnSlot>,
-        bell: Arc<ReactorNudge>,
+        context: Arc<ServerContext<A, C>>,
+        slot: Arc<ConnSlot>,
+        nudge: Arc<ReactorNudge>,
     ) -> ConnHandle<A, C> {
         ConnHandle {
-            house,
-            seat,
-            bell,
+            context,
+            slot,
+            nudge,
             key: None,
         }
     }
@@ -50,75 +50,79 @@ impl<A: RequestService, C: Clock + Wait + Drop> ServerConn for ConnHandle<A, C> 
     ghost may_answer = { A.may_answer };
 
     fn open_conn(&self) -> Option<ConnHandle<A, C>> {
-        let alloc = self.house.alloc;
-        let seat = Arc::new(alloc, ConnSlot::new(alloc).ok()?).ok()?;
-        let shared = Arc::try_clone(&seat).ok()?;
-        let bell = Arc::try_clone(&self.bell).ok()?;
-        let house = Arc::try_clone(&self.house).ok()?;
-        let key = house.register.lock(&house.clock).add_conn(shared)?;
+        let alloc = self.context.alloc;
+        let slot = Arc::new(alloc, ConnSlot::new(alloc).ok()?).ok()?;
+        let shared = Arc::try_clone(&slot).ok()?;
+        let nudge = Arc::try_clone(&self.nudge).ok()?;
+        let context = Arc::try_clone(&self.context).ok()?;
+        let key = context.table.lock(&context.clock).add_conn(shared)?;
         Some(ConnHandle {
-            house,
-            seat,
-            bell,
+            context,
+            slot,
+            nudge,
             key: Some(key),
         })
     }
 
     fn clone_handle(&self) -> Result<ConnHandle<A, C>, AllocError> {
         Ok(ConnHandle {
-            house: Arc::try_clone(&self.house)?,
-            seat: Arc::try_clone(&self.seat)?,
-            bell: Arc::try_clone(&self.bell)?,
+            context: Arc::try_clone(&self.context)?,
+            slot: Arc::try_clone(&self.slot)?,
+            nudge: Arc::try_clone(&self.nudge)?,
             key: self.key,
         })
     }
 
     fn alloc(&self) -> Global {
-        self.house.alloc
+        self.context.alloc
     }
 
     fn sleep(&self, seconds: u64) -> Option<Sleep> {
-        self.house
+        self.context
             .timers
-            .sleep(&self.house.clock, Duration::from_secs(seconds))
+            .sleep(&self.context.clock, Duration::from_secs(seconds))
             .ok()
     }
 
+    fn sleep_until(&self, deadline: Instant) -> Option<Sleep> {
+        self.context.timers.sleep_until(deadline).ok()
+    }
+
     fn pause(&self) -> Option<Sleep> {
-        self.house
+        self.context
             .timers
             .sleep(
-                &self.house.clock,
+                &self.context.clock,
                 Duration::from_millis(CROWDED_PAUSE_MILLIS),
             )
             .ok()
     }
 
     fn now(&self) -> Option<Instant> {
-        Instant::now(&self.house.clock).ok()
+        Instant::now(&self.context.clock).ok()
     }
 
     fn seconds_since(&self, since: Instant) -> u32 {
-        match since.elapsed(&self.house.clock) {
+        match since.elapsed(&self.context.clock) {
             Ok(elapsed) => u32::try_from(elapsed.as_secs()).unwrap_or(u32::MAX),
             Err(_) => 0,
         }
     }
 
     fn progress(&self) -> u64 {
-        self.seat.pace.load(Ordering::SeqCst)
+        self.slot.progress.load(Ordering::SeqCst)
     }
 
     fn close_notice(&self) -> Result<OwnedNotified, AllocError> {
-        self.seat.close_notice()
+        self.slot.close_notice()
     }
 
     fn shutdown_notice(&self) -> Result<OwnedNotified, AllocError> {
-        self.seat.shutdown_notice()
+        self.slot.shutdown_notice()
     }
 
     fn resolve(&self, parts: Parts) -> A::Head {
-        self.house.answers.resolve(parts)
+        self.context.answers.resolve(parts)
     }
 
     fn actor(head: &A::Head) -> Actor {
@@ -130,19 +134,19 @@ impl<A: RequestService, C: Clock + Wait + Drop> ServerConn for ConnHandle<A, C> 
     }
 
     fn admit(&self, actor: Actor, bytes: usize) -> Admittance {
-        self.seat.pace.fetch_add(1, Ordering::SeqCst);
+        self.slot.progress.fetch_add(1, Ordering::SeqCst);
         match self.key {
             Some(key) => self
-                .house
-                .register
-                .lock(&self.house.clock)
+                .context
+                .table
+                .lock(&self.context.clock)
                 .admit(key, actor, bytes),
             None => Admittance::Busy,
         }
     }
 
     fn turn(&self, actor: Actor, cost: Cost) -> Option<Turn> {
-        self.house.queues.turn(actor, cost)
+        self.context.queues.turn(actor, cost)
     }
 
     fn answer(&self, head: &A::Head, body: &Arrived) -> Result<A::Reply, Crowded>
@@ -150,30 +154,30 @@ impl<A: RequestService, C: Clock + Wait + Drop> ServerConn for ConnHandle<A, C> 
         ensures { IfOk result A.Reply.can_poll }
     {
         if A::cost(head, body.bytes().len()) == Cost::Exclusive {
-            self.bell.nudge();
+            self.nudge.nudge();
         }
-        self.house.answers.answer(head, body)
+        self.context.answers.answer(head, body)
     }
 
     fn finish_request(&self) {
-        self.seat.pace.fetch_add(1, Ordering::SeqCst);
+        self.slot.progress.fetch_add(1, Ordering::SeqCst);
         if let Some(key) = self.key {
-            self.house
-                .register
-                .lock(&self.house.clock)
+            self.context
+                .table
+                .lock(&self.context.clock)
                 .finish_request(key);
         }
     }
 
     fn become_idle(&self) {
         if let Some(key) = self.key {
-            self.house.register.lock(&self.house.clock).set_idle(key);
+            self.context.table.lock(&self.context.clock).set_idle(key);
         }
     }
 
     fn release(&self) {
         if let Some(key) = self.key {
-            self.house.register.lock(&self.house.clock).remove_conn(key);
+            self.context.table.lock(&self.context.clock).remove_conn(key);
         }
     }
 }

@@ -11,7 +11,7 @@ use std::alloc::AllocError;
 /// The HTTP service of one connection.
 #[derive(Drop)]
 pub struct HttpService<P> {
-    pub sitting: P,
+    pub conn: P,
 }
 
 impl<P: ServerConn, I: Drop> Service<Request<Incoming<I>>> for HttpService<P> {
@@ -25,6 +25,6 @@ impl<P: ServerConn, I: Drop> Service<Request<Incoming<I>>> for HttpService<P> {
 
     fn call(&self, req: Request<Incoming<I>>) -> RequestFuture<P, P::Head, P::Reply, I> {
         let (parts, body) = req.into_parts();
-        RequestFuture::new(&self.sitting, parts, body)
+        RequestFuture::new(&self.conn, parts, body)
     }
 }

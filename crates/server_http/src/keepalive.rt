@@ -25,9 +25,9 @@ pub struct ReactorKeepalive {
 /// Out of memory.
 pub fn keepalive_pair(alloc: Global) -> Result<(ReactorNudge, ReactorKeepalive), AllocError> {
     let (sender, receiver) = channel(alloc, 1)?;
-    let bell = ReactorNudge { calls: sender };
-    let watch = ReactorKeepalive { calls: receiver };
-    Ok((bell, watch))
+    let nudge = ReactorNudge { calls: sender };
+    let keepalive = ReactorKeepalive { calls: receiver };
+    Ok((nudge, keepalive))
 }
 
 impl ReactorNudge {

@@ -3,28 +3,31 @@
 #![tactic(auto)]
 
 mod accept;
+mod admitted_request;
 mod body_reader;
 mod conn_handle;
+mod head_timer;
 mod http_service;
 mod keepalive;
-mod moments;
 mod queues;
 mod replies;
 mod request_future;
+mod runtime;
 mod server;
 mod server_conn;
 mod server_context;
 mod serving;
 mod shutdown;
 mod slots;
+mod timed_body;
 mod timed_io;
 mod turn;
 mod write_progress;
 
 pub use accept::AcceptOrPause;
-pub use moments::{MachineClock, Moments};
 pub use queues::Queues;
 pub use replies::{busy, close_unless_whole, with_close};
+pub use runtime::ConnectionRuntime;
 pub use server::{ServeOutcome, bind_first, serve_by, serve_up_to};
 pub use server_context::{Crowded, RequestService, ServerContext};
 pub use serving::{AcceptorParts, serve_all};

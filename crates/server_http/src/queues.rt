@@ -73,9 +73,9 @@ impl Queues {
     ///
     /// Out of memory.
     pub fn new(alloc: Global, config: &Config) -> Result<Queues, AllocError> {
-        let askers = config.operators().len() + 2;
-        let mut queues = Vec::with_capacity(alloc, askers)?;
-        for _ in 0..askers {
+        let clients = config.operators().len() + 2;
+        let mut queues = Vec::with_capacity(alloc, clients)?;
+        for _ in 0..clients {
             queues.push(ClientQueue::new(alloc)?)?;
         }
         Ok(Queues { queues })

@@ -2,6 +2,7 @@
 
 use crate::accept::AcceptOrPause;
 use crate::queues::Queues;
+use crate::runtime::ConnectionRuntime;
 use crate::server_context::{RequestService, ServerContext};
 use crate::serving::{AcceptorParts, serve_all};
 use crate::shutdown::ShutdownHandle;
@@ -9,14 +10,10 @@ use crate::slots::ConnTable;
 use futures::StreamExt;
 use hyper::rt::TokioTimer;
 use hyper::server::conn::http1::Builder;
-use std::alloc::AllocGlobal;
 use std::hash::RandomState;
 use std::io;
 use std::net::{Net, ToSocketAddrs};
-use std::random::RandomSource;
-use std::sync::{Arc, Mutex, Wait};
-use std::thread::Threads;
-use std::time::Clock;
+use std::sync::{Arc, Mutex};
 use tokio::net::TcpListener;
 use tokio::reactor;
 use tokio::runtime::Runtime;
@@ -46,10 +43,10 @@ struct HttpParts<R> {
     timers: Handle,
     pauses: Handle,
     http: Builder<TokioTimer<R>>,
-    seating: AcceptorParts,
+    acceptor_parts: AcceptorParts,
 }
 
-impl<R: Clock + RandomSource + AllocGlobal + Copy> HttpParts<R> {
+impl<R: ConnectionRuntime> HttpParts<R> {
     fn new(rt: &R, runtime: &Runtime) -> io::Result<HttpParts<R>> {
         let timers = runtime.handle().time().clone()?;
         let pauses = timers.clone()?;
@@ -60,7 +57,7 @@ impl<R: Clock + RandomSource + AllocGlobal + Copy> HttpParts<R> {
             timers,
             pauses,
             http,
-            seating: AcceptorParts::new(rt.alloc())?,
+            acceptor_parts: AcceptorParts::new(rt.alloc())?,
         })
     }
 }
@@ -69,14 +66,14 @@ impl<R: Clock + RandomSource + AllocGlobal + Copy> HttpParts<R> {
 #[derive(Drop)]
 struct ServerParts<A, R> {
     http: Builder<TokioTimer<R>>,
-    seating: AcceptorParts,
+    acceptor_parts: AcceptorParts,
     pauses: Handle,
-    house: Arc<ServerContext<A, R>>,
+    context: Arc<ServerContext<A, R>>,
     shared: Arc<ServerContext<A, R>>,
 }
 
 /// What connections share, for this service and these queues, with no connection yet.
-fn open_server<A: Drop, R: Clock + RandomSource + AllocGlobal + Copy + Drop>(
+fn open_server<A: Drop, R: ConnectionRuntime>(
     rt: &R,
     runtime: &Runtime,
     answers: A,
@@ -86,26 +83,26 @@ fn open_server<A: Drop, R: Clock + RandomSource + AllocGlobal + Copy + Drop>(
         timers,
         pauses,
         http,
-        seating,
+        acceptor_parts,
     } = HttpParts::new(rt, runtime)?;
-    let register = ConnTable::new(rt.alloc(), queues.clients())?;
-    let house = Arc::new(
+    let table = ConnTable::new(rt.alloc(), queues.clients())?;
+    let context = Arc::new(
         rt.alloc(),
         ServerContext {
             alloc: rt.alloc(),
             answers,
             queues,
-            register: Mutex::new(register),
+            table: Mutex::new(table),
             clock: *rt,
             timers,
         },
     )?;
     Ok(ServerParts {
         http,
-        seating,
+        acceptor_parts,
         pauses,
-        shared: Arc::try_clone(&house)?,
-        house,
+        shared: Arc::try_clone(&context)?,
+        context,
     })
 }
 
@@ -135,22 +132,22 @@ where
     A: RequestService + Send + Sync,
     A::Head: Send,
     A::Reply: Send,
-    R: Wait + Threads + Clock + RandomSource + AllocGlobal + Sync + Send + Copy + Drop,
+    R: ConnectionRuntime,
     requires ready { A.may_answer }
 {
     let ServerParts {
         http,
-        seating,
+        acceptor_parts,
         pauses,
-        house,
+        context,
         shared,
     } = open_server(rt, runtime, answers, queues)?;
     let sockets = listener
         .incoming()
         .take(connections.unwrap_or(usize::MAX))
         .filter_map(|accepted| AcceptOrPause::new(accepted, rt, &pauses));
-    let outcome = serve_all(rt, runtime, http, sockets, shared, seating);
-    let answers = Arc::into_inner(house).map(|house| house.answers);
+    let outcome = serve_all(rt, runtime, http, sockets, shared, acceptor_parts);
+    let answers = Arc::into_inner(context).map(|context| context.answers);
     Ok(ServeOutcome { answers, outcome })
 }
 
@@ -172,22 +169,22 @@ where
     A: RequestService + Send + Sync,
     A::Head: Send,
     A::Reply: Send,
-    R: Wait + Threads + Clock + RandomSource + AllocGlobal + Sync + Send + Copy + Drop,
+    R: ConnectionRuntime,
     requires ready { A.may_answer }
 {
     let ServerParts {
         http,
-        seating,
+        acceptor_parts,
         pauses,
-        house,
+        context,
         shared,
     } = open_server(rt, runtime, answers, queues)?;
-    let closed = closing.shutdown_future(Arc::try_clone(&house)?)?;
+    let closed = closing.shutdown_future(Arc::try_clone(&context)?)?;
     let sockets = listener
         .incoming()
         .take_until(closed)
         .filter_map(|accepted| AcceptOrPause::new(accepted, rt, &pauses));
-    let outcome = serve_all(rt, runtime, http, sockets, shared, seating);
-    let answers = Arc::into_inner(house).map(|house| house.answers);
+    let outcome = serve_all(rt, runtime, http, sockets, shared, acceptor_parts);
+    let answers = Arc::into_inner(context).map(|context| context.answers);
     Ok(ServeOutcome { answers, outcome })
 }

@@ -48,6 +48,9 @@ pub trait ServerConn: Drop {
     /// refused.
     fn sleep(&self, seconds: u64) -> Option<Sleep>;
 
+    /// A timer that ends at this time; none, where memory is refused.
+    fn sleep_until(&self, deadline: Instant) -> Option<Sleep>;
+
     /// The timer of a request that pauses, which begins now; none, where the clock can't be read or
     /// memory is refused.
     fn pause(&self) -> Option<Sleep>;

@@ -52,7 +52,7 @@ pub struct ServerContext<A, C> {
     pub alloc: Global,
     pub answers: A,
     pub queues: Queues,
-    pub register: Mutex<ConnTable>,
+    pub table: Mutex<ConnTable>,
     pub clock: C,
     pub timers: Handle,
 }

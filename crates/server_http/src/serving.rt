@@ -4,6 +4,7 @@ ghost use Rattle.futures.specs.declared.future.either.Either.TheVariants.{Left, 
 
 use crate::conn_handle::ConnHandle;
 use crate::http_service::HttpService;
+use crate::runtime::ConnectionRuntime;
 use crate::keepalive::{ReactorKeepalive, ReactorNudge, keepalive_pair};
 use crate::server_conn::ServerConn;
 use crate::server_context::{RequestService, ServerContext};
@@ -17,12 +18,9 @@ use futures::{Future, Stream};
 use http_body_util::Full;
 use hyper::rt::Timer;
 use hyper::server::conn::http1::{Builder, Connection};
-use std::alloc::{AllocError, AllocGlobal, Global};
+use std::alloc::{AllocError, Global};
 use std::io;
-use std::random::RandomSource;
-use std::sync::{Arc, Wait};
-use std::thread::Threads;
-use std::time::Clock;
+use std::sync::Arc;
 use tokio::io::{AsyncRead, AsyncWrite};
 use tokio::runtime::Runtime;
 use tokio::sync::OwnedNotified;
@@ -30,9 +28,9 @@ use tokio::sync::OwnedNotified;
 /// What the accept loop owns, and the reactor's keep-alive task.
 #[derive(Drop)]
 pub struct AcceptorParts {
-    seat: Arc<ConnSlot>,
-    bell: Arc<ReactorNudge>,
-    watch: ReactorKeepalive,
+    slot: Arc<ConnSlot>,
+    nudge: Arc<ReactorNudge>,
+    keepalive: ReactorKeepalive,
 }
 
 impl AcceptorParts {
@@ -42,10 +40,10 @@ impl AcceptorParts {
     ///
     /// Out of memory.
     pub fn new(alloc: Global) -> Result<AcceptorParts, AllocError> {
-        let (bell, watch) = keepalive_pair(alloc)?;
-        let bell = Arc::new(alloc, bell)?;
-        let seat = Arc::new(alloc, ConnSlot::new(alloc)?)?;
-        Ok(AcceptorParts { seat, bell, watch })
+        let (nudge, keepalive) = keepalive_pair(alloc)?;
+        let nudge = Arc::new(alloc, nudge)?;
+        let slot = Arc::new(alloc, ConnSlot::new(alloc)?)?;
+        Ok(AcceptorParts { slot, nudge, keepalive })
     }
 }
 
@@ -54,23 +52,23 @@ impl AcceptorParts {
 #[derive(Drop)]
 struct NewConn<I, P> {
     io: TimedIo<I, P>,
-    door: HttpService<P>,
+    service: HttpService<P>,
     last: OwnedNotified,
-    sitting: P,
+    conn: P,
 }
 
 /// A new connection; none, where there is no slot for it.
-fn new_conn<I: Drop, P: ServerConn>(io: I, usher: &P) -> Option<NewConn<I, P>> {
-    let sitting = usher.open_conn()?;
-    match conn_parts(io, &sitting) {
-        Ok((io, door, last)) => Some(NewConn {
+fn new_conn<I: Drop, P: ServerConn>(io: I, acceptor: &P) -> Option<NewConn<I, P>> {
+    let conn = acceptor.open_conn()?;
+    match conn_parts(io, &conn) {
+        Ok((io, service, last)) => Some(NewConn {
             io,
-            door,
+            service,
             last,
-            sitting,
+            conn,
         }),
         Err(_) => {
-            sitting.release();
+            conn.release();
             None
         }
     }
@@ -79,13 +77,13 @@ fn new_conn<I: Drop, P: ServerConn>(io: I, usher: &P) -> Option<NewConn<I, P>> {
 /// A socket with deadlines, its HTTP service, and the future that ends when the server shuts down.
 fn conn_parts<I: Drop, P: ServerConn>(
     io: I,
-    sitting: &P,
+    conn: &P,
 ) -> Result<(TimedIo<I, P>, HttpService<P>, OwnedNotified), AllocError> {
-    let door = HttpService {
-        sitting: sitting.clone_handle()?,
+    let service = HttpService {
+        conn: conn.clone_handle()?,
     };
-    let last = sitting.shutdown_notice()?;
-    Ok((TimedIo::new(io, sitting.clone_handle()?)?, door, last))
+    let last = conn.shutdown_notice()?;
+    Ok((TimedIo::new(io, conn.clone_handle()?)?, service, last))
 }
 
 /// A connection's future, which gives its slot back at the end.
@@ -93,7 +91,7 @@ fn conn_parts<I: Drop, P: ServerConn>(
 struct ConnTask<F, P> {
     future: F,
     ending: GracePeriod,
-    sitting: P,
+    conn: P,
 }
 
 impl<F: Future<Output: Drop>, P: ServerConn> Future for ConnTask<F, P> {
@@ -102,10 +100,10 @@ impl<F: Future<Output: Drop>, P: ServerConn> Future for ConnTask<F, P> {
     ghost can_poll = { λ seated. F.can_poll seated.future };
 
     fn poll(&mut self, cx: &mut Context<'_>) -> Poll<()> {
-        if self.future.poll(cx).is_pending() && !self.ending.is_over(&self.sitting, cx) {
+        if self.future.poll(cx).is_pending() && !self.ending.is_over(&self.conn, cx) {
             return Poll::Pending;
         }
-        self.sitting.release();
+        self.conn.release();
         Poll::Ready(())
     }
 }
@@ -127,7 +125,7 @@ trait ConnFactory<I>: Drop {
 #[derive(Drop)]
 struct HttpConnFactory<P, T> {
     http: Builder<T>,
-    usher: P,
+    acceptor: P,
 }
 
 impl<I, P, T> ConnFactory<I> for HttpConnFactory<P, T>
@@ -143,14 +141,14 @@ where
     fn task_for(&self, io: I) -> Option<Self::Task> {
         let NewConn {
             io,
-            door,
+            service,
             last,
-            sitting,
-        } = new_conn(io, &self.usher)?;
+            conn,
+        } = new_conn(io, &self.acceptor)?;
         Some(ConnTask {
-            future: self.http.serve_connection(io, door),
+            future: self.http.serve_connection(io, service),
             ending: GracePeriod::new(last),
-            sitting,
+            conn,
         })
     }
 }
@@ -158,7 +156,7 @@ where
 /// The tasks of a server: the reactor's keep-alive task, then each connection that gets a slot.
 #[derive(Drop)]
 struct ServerTasks<S, H> {
-    watch: Option<ReactorKeepalive>,
+    keepalive: Option<ReactorKeepalive>,
     sockets: S,
     host: H,
 }
@@ -172,8 +170,8 @@ impl<S: Stream, H: ConnFactory<S::Item>> Stream for ServerTasks<S, H> {
         (elim [ Left task ↦ H.Task.can_poll task | Right _ ↦ ⊤ ]) };
 
     fn poll_next(&mut self, cx: &mut Context<'_>) -> Poll<Option<Self::Item>> {
-        if let Some(watch) = self.watch.take() {
-            return Poll::Ready(Some(Either::Right(watch)));
+        if let Some(keepalive) = self.keepalive.take() {
+            return Poll::Ready(Some(Either::Right(keepalive)));
         }
         match self.sockets.poll_next(cx) {
             Poll::Ready(Some(io)) => match self.host.task_for(io) {
@@ -189,7 +187,7 @@ impl<S: Stream, H: ConnFactory<S::Item>> Stream for ServerTasks<S, H> {
 /// Runs all tasks of a server to their end.
 fn run_tasks<R, S, H>(rt: &R, runtime: &mut Runtime, tasks: ServerTasks<S, H>) -> io::Result<()>
 where
-    R: Wait + Threads + Clock + RandomSource + AllocGlobal + Sync,
+    R: ConnectionRuntime,
     S: Stream,
     H: ConnFactory<S::Item>,
     H::Task: Send,
@@ -205,11 +203,11 @@ pub fn serve_all<R, S, I, A, T>(
     runtime: &mut Runtime,
     http: Builder<T>,
     sockets: S,
-    house: Arc<ServerContext<A, R>>,
-    seating: AcceptorParts,
+    context: Arc<ServerContext<A, R>>,
+    acceptor_parts: AcceptorParts,
 ) -> io::Result<()>
 where
-    R: Wait + Threads + Clock + RandomSource + AllocGlobal + Send + Sync + Drop,
+    R: ConnectionRuntime,
     S: Stream<Item = I>,
     I: AsyncRead + AsyncWrite + Send,
     A: RequestService + Send + Sync,
@@ -219,9 +217,9 @@ where
     requires sockets { S.can_poll sockets }
     requires ready { A.may_answer }
 {
-    let AcceptorParts { seat, bell, watch } = seating;
-    let usher = ConnHandle::acceptor(house, seat, bell);
-    serve_with(rt, runtime, http, sockets, usher, watch)
+    let AcceptorParts { slot, nudge, keepalive } = acceptor_parts;
+    let acceptor = ConnHandle::acceptor(context, slot, nudge);
+    serve_with(rt, runtime, http, sockets, acceptor, keepalive)
 }
 
 /// The same, by an acceptor's handle.
@@ -230,11 +228,11 @@ fn serve_with<R, S, I, P, T>(
     runtime: &mut Runtime,
     http: Builder<T>,
     sockets: S,
-    usher: P,
-    watch: ReactorKeepalive,
+    acceptor: P,
+    keepalive: ReactorKeepalive,
 ) -> io::Result<()>
 where
-    R: Wait + Threads + Clock + RandomSource + AllocGlobal + Sync,
+    R: ConnectionRuntime,
     S: Stream<Item = I>,
     I: AsyncRead + AsyncWrite + Send,
     P: ServerConn + Send,
@@ -245,9 +243,9 @@ where
     requires ready { P.may_answer }
 {
     let tasks = ServerTasks {
-        watch: Some(watch),
+        keepalive: Some(keepalive),
         sockets,
-        host: HttpConnFactory { http, usher },
+        host: HttpConnFactory { http, acceptor },
     };
     run_tasks(rt, runtime, tasks)
 }

@@ -17,7 +17,7 @@ const CLOSING_SECONDS: u64 = 10;
 /// Shuts a server down, from any thread, and says how many connections it has.
 #[derive(Drop)]
 pub struct ShutdownHandle {
-    bell: Arc<Notify>,
+    notify: Arc<Notify>,
     connections: Arc<AtomicU64>,
 }
 
@@ -25,8 +25,8 @@ pub struct ShutdownHandle {
 /// connection has been notified.
 #[derive(Drop)]
 pub struct ShutdownFuture<A, C> {
-    rung: OwnedNotified,
-    house: Arc<ServerContext<A, C>>,
+    notified: OwnedNotified,
+    context: Arc<ServerContext<A, C>>,
 }
 
 /// The grace period of a connection, once its server shuts down.
@@ -44,7 +44,7 @@ impl ShutdownHandle {
     /// Out of memory.
     pub fn new(alloc: Global) -> Result<ShutdownHandle, AllocError> {
         Ok(ShutdownHandle {
-            bell: Arc::new(alloc, Notify::new(alloc)?)?,
+            notify: Arc::new(alloc, Notify::new(alloc)?)?,
             connections: Arc::new(alloc, AtomicU64::new(0))?,
         })
     }
@@ -62,7 +62,7 @@ impl ShutdownHandle {
     /// and what has begun is answered, within 10 seconds. A server that isn't served yet ends as
     /// soon as it is.
     pub fn close(&self) {
-        self.bell.notify_one();
+        self.notify.notify_one();
     }
 
     /// The future that closes this table of connections, once the server is to shut down. Its
@@ -73,13 +73,13 @@ impl ShutdownHandle {
     /// There are too many references.
     pub fn shutdown_future<A: Drop, C: Wait + Drop>(
         &self,
-        house: Arc<ServerContext<A, C>>,
+        context: Arc<ServerContext<A, C>>,
     ) -> Result<ShutdownFuture<A, C>, AllocError> {
         let connections = self.connections()?;
-        house.register.lock(&house.clock).count_at(connections);
+        context.table.lock(&context.clock).count_at(connections);
         Ok(ShutdownFuture {
-            rung: Notify::notified_owned(Arc::try_clone(&self.bell)?),
-            house,
+            notified: Notify::notified_owned(Arc::try_clone(&self.notify)?),
+            context,
         })
     }
 }
@@ -88,12 +88,12 @@ impl<A: Drop, C: Wait + Drop> Future for ShutdownFuture<A, C> {
     type Output = ();
 
     fn poll(&mut self, cx: &mut Context<'_>) -> Poll<()> {
-        if self.rung.poll(cx).is_pending() {
+        if self.notified.poll(cx).is_pending() {
             return Poll::Pending;
         }
-        let mut register = self.house.register.lock(&self.house.clock);
-        register.close();
-        register.notify_shutdown();
+        let mut table = self.context.table.lock(&self.context.clock);
+        table.close();
+        table.notify_shutdown();
         Poll::Ready(())
     }
 }
@@ -105,14 +105,14 @@ impl GracePeriod {
     }
 
     /// Whether the server shuts down, and the connection's grace period is over.
-    pub fn is_over<P: ServerConn>(&mut self, sitting: &P, cx: &mut Context<'_>) -> bool
+    pub fn is_over<P: ServerConn>(&mut self, conn: &P, cx: &mut Context<'_>) -> bool
         ensures { Keeps cx.old cx.new }
     {
         if self.limit.is_none() {
             if self.last.poll(cx).is_pending() {
                 return false;
             }
-            self.limit = sitting.sleep(CLOSING_SECONDS);
+            self.limit = conn.sleep(CLOSING_SECONDS);
         }
         match &mut self.limit {
             Some(limit) => limit.poll(cx).is_ready(),

@@ -15,7 +15,7 @@ use tokio::sync::{Notify, OwnedNotified};
 #[derive(Drop)]
 pub struct ConnSlot {
     /// How far it is: even while it waits for a head, odd while a request is answered.
-    pub pace: AtomicU64,
+    pub progress: AtomicU64,
     /// Notifies the connection that it has to close.
     leave: Arc<Notify>,
     /// Notifies it that the server shuts down.
@@ -36,22 +36,22 @@ pub enum Admittance {
 #[derive(Drop)]
 struct ConnEntry {
     /// The index of the client that uses it.
-    asker: usize,
+    client: usize,
     /// It was told to close, and isn't counted any more.
-    is_told: bool,
+    is_closing: bool,
     /// Since when it is idle, where it is.
     since: Option<u64>,
     /// The bytes that the body of its unanswered request counts as.
     waits: Option<usize>,
-    seat: Arc<ConnSlot>,
+    slot: Arc<ConnSlot>,
 }
 
 /// The table of connections, and what waits.
 #[derive(Drop)]
 pub struct ConnTable {
-    sitters: Slab<ConnEntry>,
+    conns: Slab<ConnEntry>,
     /// How often a connection began to be idle: later ones have a higher number.
-    rests: u64,
+    idle_starts: u64,
     /// The keys of each client's idle connections, by since when they are idle.
     idle: Vec<BTreeMap<u64, usize>>,
     /// How many connections each client has: anonymous, the author, and then the operators.
@@ -76,7 +76,7 @@ impl ConnSlot {
     /// Out of memory.
     pub fn new(alloc: Global) -> Result<ConnSlot, AllocError> {
         Ok(ConnSlot {
-            pace: AtomicU64::new(0),
+            progress: AtomicU64::new(0),
             leave: Arc::new(alloc, Notify::new(alloc)?)?,
             last: Arc::new(alloc, Notify::new(alloc)?)?,
         })
@@ -107,21 +107,21 @@ impl ConnTable {
     /// # Errors
     ///
     /// Out of memory.
-    pub fn new(alloc: Global, askers: usize) -> Result<ConnTable, AllocError> {
+    pub fn new(alloc: Global, clients: usize) -> Result<ConnTable, AllocError> {
         let none = Load {
             requests: 0,
             bytes: 0,
         };
-        let mut idle = Vec::with_capacity(alloc, askers)?;
-        for _ in 0..askers {
+        let mut idle = Vec::with_capacity(alloc, clients)?;
+        for _ in 0..clients {
             idle.push(BTreeMap::new(alloc))?;
         }
         Ok(ConnTable {
-            sitters: Slab::new(alloc),
-            rests: 0,
+            conns: Slab::new(alloc),
+            idle_starts: 0,
             idle,
-            counts: vec![in alloc; 0; askers]?,
-            loads: vec![in alloc; none; askers]?,
+            counts: vec![in alloc; 0; clients]?,
+            loads: vec![in alloc; none; clients]?,
             all: 0,
             bytes: 0,
             open: None,
@@ -148,47 +148,47 @@ impl ConnTable {
     /// Stores the number of open connections, where it is wanted.
     fn store_open(&self) {
         if let Some(open) = &self.open {
-            open.store(self.sitters.len() as u64, Ordering::SeqCst);
+            open.store(self.conns.len() as u64, Ordering::SeqCst);
         }
     }
 
     /// Notifies each connection that the server shuts down. One that waits for a head closes at
     /// once, another once its response is written.
     pub fn notify_shutdown(&self) {
-        for (_, sitter) in self.sitters.iter() {
-            sitter.seat.leave.notify_one();
-            sitter.seat.last.notify_one();
+        for (_, entry) in self.conns.iter() {
+            entry.slot.leave.notify_one();
+            entry.slot.last.notify_one();
         }
     }
 
     /// Gives an anonymous connection a slot, and returns its key; none, where there is no slot for
     /// it or the table is closed.
-    pub fn add_conn(&mut self, seat: Arc<ConnSlot>) -> Option<usize>
+    pub fn add_conn(&mut self, slot: Arc<ConnSlot>) -> Option<usize>
         ensures closed { self.old.is_closed ≡ true → result ≡ None }
         ensures kept { self.new.is_closed ≡ self.old.is_closed }
     {
         if self.is_closed {
             return None;
         }
-        let asker = index_of(Actor::Nobody);
-        if !self.take_slot(asker) {
+        let client = index_of(Actor::Nobody);
+        if !self.take_slot(client) {
             return None;
         }
-        let sitter = ConnEntry {
-            asker,
-            is_told: false,
+        let entry = ConnEntry {
+            client,
+            is_closing: false,
             since: None,
             waits: None,
-            seat,
+            slot,
         };
-        match self.sitters.insert(sitter) {
+        match self.conns.insert(entry) {
             Ok(key) => {
                 self.set_idle(key);
                 self.store_open();
                 Some(key)
             }
             Err(_) => {
-                self.uncount(asker);
+                self.uncount(client);
                 None
             }
         }
@@ -200,17 +200,17 @@ impl ConnTable {
         ensures { self.new.is_closed ≡ self.old.is_closed }
     {
         self.set_busy(key);
-        let Some(sitter) = self.sitters.get_mut(key) else {
+        let Some(entry) = self.conns.get_mut(key) else {
             return;
         };
-        if sitter.is_told {
+        if entry.is_closing {
             return;
         }
-        self.rests = self.rests.saturating_add(1);
-        if let Some(idle) = self.idle.get_mut(sitter.asker)
-            && idle.insert(self.rests, key).is_ok()
+        self.idle_starts = self.idle_starts.saturating_add(1);
+        if let Some(idle) = self.idle.get_mut(entry.client)
+            && idle.insert(self.idle_starts, key).is_ok()
         {
-            sitter.since = Some(self.rests);
+            entry.since = Some(self.idle_starts);
         }
     }
 
@@ -223,8 +223,8 @@ impl ConnTable {
         if self.is_closed {
             return Admittance::Busy;
         }
-        match self.sitters.get(key) {
-            Some(sitter) if !sitter.is_told => {}
+        match self.conns.get(key) {
+            Some(entry) if !entry.is_closing => {}
             _ => return Admittance::Busy,
         }
         self.set_busy(key);
@@ -242,15 +242,15 @@ impl ConnTable {
     pub fn finish_request(&mut self, key: usize)
         ensures { self.new.is_closed ≡ self.old.is_closed }
     {
-        let Some(sitter) = self.sitters.get_mut(key) else {
+        let Some(entry) = self.conns.get_mut(key) else {
             return;
         };
-        let asker = sitter.asker;
-        let Some(bytes) = sitter.waits.take() else {
+        let client = entry.client;
+        let Some(bytes) = entry.waits.take() else {
             return;
         };
         self.bytes = self.bytes.saturating_sub(bytes);
-        if let Some(load) = self.loads.get_mut(asker) {
+        if let Some(load) = self.loads.get_mut(client) {
             load.requests = load.requests.saturating_sub(1);
             load.bytes = load.bytes.saturating_sub(bytes);
         }
@@ -262,10 +262,10 @@ impl ConnTable {
     {
         self.set_busy(key);
         self.finish_request(key);
-        if let Some(sitter) = self.sitters.try_remove(key)
-            && !sitter.is_told
+        if let Some(entry) = self.conns.try_remove(key)
+            && !entry.is_closing
         {
-            self.uncount(sitter.asker);
+            self.uncount(entry.client);
         }
         self.store_open();
     }
@@ -274,90 +274,90 @@ impl ConnTable {
     fn set_busy(&mut self, key: usize)
         ensures { self.new.is_closed ≡ self.old.is_closed }
     {
-        let Some(sitter) = self.sitters.get_mut(key) else {
+        let Some(entry) = self.conns.get_mut(key) else {
             return;
         };
-        let Some(since) = sitter.since.take() else {
+        let Some(since) = entry.since.take() else {
             return;
         };
-        if let Some(idle) = self.idle.get_mut(sitter.asker) {
+        if let Some(idle) = self.idle.get_mut(entry.client) {
             idle.remove(&since);
         }
     }
 
-    fn count(&mut self, asker: usize)
+    fn count(&mut self, client: usize)
         ensures { self.new.is_closed ≡ self.old.is_closed }
     {
         self.all = self.all.saturating_add(1);
-        if let Some(count) = self.counts.get_mut(asker) {
+        if let Some(count) = self.counts.get_mut(client) {
             *count = count.saturating_add(1);
         }
     }
 
-    fn uncount(&mut self, asker: usize)
+    fn uncount(&mut self, client: usize)
         ensures { self.new.is_closed ≡ self.old.is_closed }
     {
         self.all = self.all.saturating_sub(1);
-        if let Some(count) = self.counts.get_mut(asker) {
+        if let Some(count) = self.counts.get_mut(client) {
             *count = count.saturating_sub(1);
         }
     }
 
     /// Counts one more connection of this client. Another one may be told to close for it; false,
     /// where none can be.
-    fn take_slot(&mut self, asker: usize) -> bool
+    fn take_slot(&mut self, client: usize) -> bool
         ensures { self.new.is_closed ≡ self.old.is_closed }
     {
-        self.count(asker);
-        match slot_for(&self.counts, self.all, asker) {
+        self.count(client);
+        match slot_for(&self.counts, self.all, client) {
             Decision::Take => true,
             Decision::Close(of) => {
-                let is_told = self.close_oldest(of);
-                if !is_told {
-                    self.uncount(asker);
+                let is_closing = self.close_oldest(of);
+                if !is_closing {
+                    self.uncount(client);
                 }
-                is_told
+                is_closing
             }
         }
     }
 
     /// Tells the oldest idle connection of this client to close; false, where none is idle.
-    fn close_oldest(&mut self, asker: usize) -> bool
+    fn close_oldest(&mut self, client: usize) -> bool
         ensures { self.new.is_closed ≡ self.old.is_closed }
     {
-        let Some(idle) = self.idle.get_mut(asker) else {
+        let Some(idle) = self.idle.get_mut(client) else {
             return false;
         };
         let Some((_, key)) = idle.pop_first() else {
             return false;
         };
-        if let Some(sitter) = self.sitters.get_mut(key) {
-            sitter.since = None;
-            sitter.is_told = true;
-            sitter.seat.leave.notify_one();
+        if let Some(entry) = self.conns.get_mut(key) {
+            entry.since = None;
+            entry.is_closing = true;
+            entry.slot.leave.notify_one();
         }
-        self.uncount(asker);
+        self.uncount(client);
         true
     }
 
     /// The connection becomes one of this client's; false, where there is no slot for it.
-    fn assign_to(&mut self, key: usize, asker: usize) -> bool
+    fn assign_to(&mut self, key: usize, client: usize) -> bool
         ensures { self.new.is_closed ≡ self.old.is_closed }
     {
-        let former = match self.sitters.get(key) {
-            Some(sitter) => sitter.asker,
+        let former = match self.conns.get(key) {
+            Some(entry) => entry.client,
             None => return false,
         };
-        if former == asker {
+        if former == client {
             return true;
         }
         self.uncount(former);
-        if !self.take_slot(asker) {
+        if !self.take_slot(client) {
             self.count(former);
             return false;
         }
-        if let Some(sitter) = self.sitters.get_mut(key) {
-            sitter.asker = asker;
+        if let Some(entry) = self.conns.get_mut(key) {
+            entry.client = client;
         }
         true
     }
@@ -366,10 +366,10 @@ impl ConnTable {
     fn start_wait(&mut self, key: usize, bytes: usize) -> bool
         ensures { self.new.is_closed ≡ self.old.is_closed }
     {
-        let Some(sitter) = self.sitters.get_mut(key) else {
+        let Some(entry) = self.conns.get_mut(key) else {
             return false;
         };
-        let Some(load) = self.loads.get_mut(sitter.asker) else {
+        let Some(load) = self.loads.get_mut(entry.client) else {
             return false;
         };
         if !may_wait(*load, self.bytes, bytes) {
@@ -378,7 +378,7 @@ impl ConnTable {
         load.requests = load.requests.saturating_add(1);
         load.bytes = load.bytes.saturating_add(bytes);
         self.bytes = self.bytes.saturating_add(bytes);
-        sitter.waits = Some(bytes);
+        entry.waits = Some(bytes);
         true
     }
 }

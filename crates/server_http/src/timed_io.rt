@@ -2,6 +2,7 @@
 ghost use Rattle.std.specs.Prelude.{◌≡◌};
 ghost use Rattle.futures.specs.Task.{Keeps};
 
+use crate::head_timer::HeadTimer;
 use crate::server_conn::ServerConn;
 use crate::write_progress::WriteProgress;
 use futures::Future;
@@ -11,14 +12,6 @@ use std::alloc::AllocError;
 use std::io;
 use tokio::io::{AsyncRead, AsyncWrite};
 use tokio::sync::OwnedNotified;
-use tokio::time::Sleep;
-
-/// The deadline of a head, or of an idle connection.
-#[derive(Drop)]
-struct Limit {
-    stage: HeadPhase,
-    sleep: Sleep,
-}
 
 /// A socket whose reads fail where a head takes longer than `HEAD_SECONDS` from its first byte,
 /// where none begins for `IDLE_SECONDS`, or where the connection is told to close while it waits
@@ -26,20 +19,12 @@ struct Limit {
 #[derive(Drop)]
 pub struct TimedIo<I, P> {
     io: I,
-    sitting: P,
-    told: OwnedNotified,
-    limit: Option<Limit>,
+    conn: P,
+    close_notice: OwnedNotified,
+    timer: HeadTimer,
     /// How many bytes of a response were written, until all of it is.
-    taken: u64,
+    written: u64,
     sending: Option<WriteProgress>,
-}
-
-impl Limit {
-    /// The deadline of a stage; none, where the clock can't be read or memory is refused.
-    fn new<P: ServerConn>(sitting: &P, stage: HeadPhase) -> Option<Limit> {
-        let sleep = sitting.sleep(stage.seconds())?;
-        Some(Limit { stage, sleep })
-    }
 }
 
 impl<I: Drop, P: ServerConn> TimedIo<I, P> {
@@ -48,13 +33,13 @@ impl<I: Drop, P: ServerConn> TimedIo<I, P> {
     /// # Errors
     ///
     /// There are too many references.
-    pub fn new(io: I, sitting: P) -> Result<TimedIo<I, P>, AllocError> {
+    pub fn new(io: I, conn: P) -> Result<TimedIo<I, P>, AllocError> {
         Ok(TimedIo {
             io,
-            told: sitting.close_notice()?,
-            sitting,
-            limit: None,
-            taken: 0,
+            close_notice: conn.close_notice()?,
+            conn,
+            timer: HeadTimer::new(),
+            written: 0,
             sending: None,
         })
     }
@@ -64,23 +49,19 @@ impl<I: Drop, P: ServerConn> TimedIo<I, P> {
     fn begin(&mut self, is_head: bool)
         ensures { self.new.io ≡ self.old.io }
     {
-        let pace = self.sitting.progress();
+        let pace = self.conn.progress();
         if is_answering(pace) || (!is_head && self.is_writing()) {
-            self.limit = None;
+            self.timer.stop();
             return;
         }
-        let stage = HeadPhase { pace, is_head };
-        if self
-            .limit
-            .as_ref()
-            .is_some_and(|limit| limit.stage.goes_on(stage))
-        {
+        let phase = HeadPhase { pace, is_head };
+        if self.timer.goes_on(phase) {
             return;
         }
         if !is_head {
-            self.sitting.become_idle();
+            self.conn.become_idle();
         }
-        self.limit = Limit::new(&self.sitting, stage);
+        self.timer.start(&self.conn, phase);
     }
 
     /// Whether the running deadline is over, or the connection was told to close.
@@ -88,22 +69,20 @@ impl<I: Drop, P: ServerConn> TimedIo<I, P> {
         ensures same { self.new.io ≡ self.old.io }
         ensures kept { Keeps cx.old cx.new }
     {
-        match &mut self.limit {
-            Some(limit) => limit.sleep.poll(cx).is_ready() || self.told.poll(cx).is_ready(),
-            None => false,
-        }
+        self.timer.runs()
+            && (self.timer.is_over(&self.conn, cx) || self.close_notice.poll(cx).is_ready())
     }
 
     /// Whether a response isn't written whole.
     fn is_writing(&self) -> bool {
-        self.taken > 0 || self.sending.is_some()
+        self.written > 0 || self.sending.is_some()
     }
 
     /// So many bytes of a response were written.
     fn count_written(&mut self, count: usize)
         ensures { self.new.io ≡ self.old.io }
     {
-        self.taken = self.taken.saturating_add(count as u64);
+        self.written = self.written.saturating_add(count as u64);
         if let Some(sending) = &mut self.sending {
             sending.note_progress();
         }
@@ -115,10 +94,10 @@ impl<I: Drop, P: ServerConn> TimedIo<I, P> {
         ensures kept { Keeps cx.old cx.new }
     {
         if self.sending.is_none() {
-            self.sending = WriteProgress::new(&self.sitting);
+            self.sending = WriteProgress::new(&self.conn);
         }
         match &mut self.sending {
-            Some(sending) => sending.is_late(&self.sitting, self.taken, cx),
+            Some(sending) => sending.is_late(&self.conn, self.written, cx),
             None => false,
         }
     }
@@ -127,7 +106,7 @@ impl<I: Drop, P: ServerConn> TimedIo<I, P> {
     fn finish_write(&mut self)
         ensures { self.new.io ≡ self.old.io }
     {
-        self.taken = 0;
+        self.written = 0;
         self.sending = None;
         self.begin(false);
     }

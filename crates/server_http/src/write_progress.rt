@@ -19,9 +19,9 @@ pub struct WriteProgress {
 
 impl WriteProgress {
     /// A response that has to wait; none, where the clock can't be read.
-    pub fn new<P: ServerConn>(sitting: &P) -> Option<WriteProgress> {
+    pub fn new<P: ServerConn>(conn: &P) -> Option<WriteProgress> {
         Some(WriteProgress {
-            since: sitting.now()?,
+            since: conn.now()?,
             stall: None,
         })
     }
@@ -32,19 +32,19 @@ impl WriteProgress {
     }
 
     /// Whether it is written too slowly: so many bytes of it are written by now.
-    pub fn is_late<P: ServerConn>(&mut self, sitting: &P, taken: u64, cx: &mut Context<'_>) -> bool
+    pub fn is_late<P: ServerConn>(&mut self, conn: &P, taken: u64, cx: &mut Context<'_>) -> bool
         ensures { Keeps cx.old cx.new }
     {
-        let seconds = sitting.seconds_since(self.since);
-        is_too_slow(self.is_stalled(sitting, cx), seconds, taken)
+        let seconds = conn.seconds_since(self.since);
+        is_too_slow(self.is_stalled(conn, cx), seconds, taken)
     }
 
     /// Whether nothing was written for as long as may be.
-    fn is_stalled<P: ServerConn>(&mut self, sitting: &P, cx: &mut Context<'_>) -> bool
+    fn is_stalled<P: ServerConn>(&mut self, conn: &P, cx: &mut Context<'_>) -> bool
         ensures { Keeps cx.old cx.new }
     {
         if self.stall.is_none() {
-            self.stall = sitting.sleep(STALL_SECONDS);
+            self.stall = conn.sleep(STALL_SECONDS);
         }
         match &mut self.stall {
             Some(stall) => stall.poll(cx).is_ready(),

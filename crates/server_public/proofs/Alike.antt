@@ -16,7 +16,7 @@ use Rattle.server_public.specs.AcceptField.{line_takes}
 use Rattle.server_public.specs.Answer.{found, reads}
 use Rattle.server_public.specs.Documents.{Face, Notice, face_of, geography_notice, is_public, last, names, policy_notice, public_policies, touched}
 use Rattle.server_public.specs.Withdrawal.{earlier, ended_at, ends, withdrawn_from}
-use Rattle.server_public.specs.declared.public_target.PublicTarget.{PublicTarget}
+use Rattle.server_routes.specs.declared.public_target.PublicTarget.{PublicTarget}
 use Rattle.server_public.specs.declared.refusal.Refusal.{Refusal}
 use Rattle.server_public.specs.declared.refusal.Refusal.TheVariants.{Method, NotAcceptable}
 use Rattle.server_public.specs.Laws.{for_everyone}

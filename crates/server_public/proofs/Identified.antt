@@ -3,7 +3,7 @@ use Rattle.std.proofs.Common.{◌≡◌, ℕ, List, Bool, true, false, cond, Opt
 use Rattle.std.specs.Str.{IsUtf8, is_utf8}
 use Rattle.std.proofs.lemmas.Str.{IsUtf8-from_is_utf8, is_utf8-from_IsUtf8}
 use Rattle.uuid.specs.Text.{parsed}
-use Rattle.server_public.specs.Target.{identifier}
+use Rattle.server_routes.specs.Target.{identifier}
 
 pub of_text : (text : List ℕ) → IsUtf8 text → identifier text ≡ parsed text
 of_text text is = ap (λ b. cond b (parsed text) None) (is_utf8-from_IsUtf8 text is)

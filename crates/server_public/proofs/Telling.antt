@@ -7,7 +7,7 @@ use Rattle.http.specs.declared.response.Response.{Response}
 use Rattle.http_body_util.specs.declared.full.Full.{Full}
 use Rattle.server_public.specs.Answer.{Meets, answer_of}
 use Rattle.server_public.specs.View.{face}
-use Rattle.server_public.specs.declared.public_target.PublicTarget.{PublicTarget}
+use Rattle.server_routes.specs.declared.public_target.PublicTarget.{PublicTarget}
 use Rattle.server_public.specs.declared.public_documents.PublicDocuments as program
 use Rattle.server_public.specs.declared.refusal.PublicFault.{PublicFault}
 use Rattle.server_public.specs.declared.refusal.PublicFault.TheVariants.{Refused}

@@ -6,8 +6,8 @@ use Rattle.server_public.specs.AcceptField.{is_accepted}
 use Rattle.server_public.specs.Body.{body_text}
 use Rattle.server_public.specs.Documents.{Face, Notice}
 use Rattle.server_public.specs.Period.{is_in, period_in}
-use Rattle.server_public.specs.declared.public_target.PublicTarget.{PublicTarget}
-use Rattle.server_public.specs.declared.public_target.PublicTarget.TheVariants.{Policies, Policy, Geographies, Geography}
+use Rattle.server_routes.specs.declared.public_target.PublicTarget.{PublicTarget}
+use Rattle.server_routes.specs.declared.public_target.PublicTarget.TheVariants.{Policies, Policy, Geographies, Geography}
 use Rattle.server_public.specs.declared.period.Period.{Period}
 use Rattle.server_public.specs.declared.refusal.Refusal.{Refusal}
 use Rattle.server_public.specs.declared.refusal.Refusal.TheVariants.{BadParameter, NotFound, Method, NotAcceptable}

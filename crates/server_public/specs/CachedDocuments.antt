@@ -7,7 +7,7 @@ use Rattle.mds_catalog.specs.Publication.{Publication}
 use Rattle.server_public.specs.Answer.{answer_of}
 use Rattle.server_public.specs.Documents.{face_of}
 use Rattle.server_public.specs.View.{face}
-use Rattle.server_public.specs.declared.public_target.PublicTarget.{PublicTarget}
+use Rattle.server_routes.specs.declared.public_target.PublicTarget.{PublicTarget}
 use Rattle.server_public.specs.declared.public_documents.PublicDocuments as program
 use Rattle.server_public.specs.declared.refusal.Refusal.{Refusal}
 use Rattle.mds_request.specs.Configuration.{Configuration}

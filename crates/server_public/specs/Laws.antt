@@ -5,7 +5,7 @@ use Rattle.http.specs.declared.request.Parts.{Parts}
 use Rattle.mds_catalog.specs.Publication.{Publication}
 use Rattle.mds_desk.specs.Room.{RoomState}
 use Rattle.server_public.specs.Documents.{face_of}
-use Rattle.server_public.specs.declared.public_target.PublicTarget.{PublicTarget}
+use Rattle.server_routes.specs.declared.public_target.PublicTarget.{PublicTarget}
 use Rattle.server_public.specs.CachedDocuments.{answer_to}
 
 -- Two author's rooms with the same publications give the same answer to requests with the same method, target and

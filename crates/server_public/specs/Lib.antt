@@ -1,4 +1,3 @@
-pub mod Target
 pub mod AcceptField
 pub mod Answer
 pub mod Body

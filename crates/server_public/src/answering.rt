@@ -9,11 +9,11 @@ use crate::body::body_of;
 use crate::period::Period;
 use crate::public_document::PublicDocument;
 use crate::public_documents::{GEOGRAPHIES, POLICIES, PublicDocuments};
-use crate::public_target::PublicTarget;
 use crate::refusal::{PublicFault, Refusal};
 use bytes::Bytes;
 use http::HeaderMap;
 use mds_text::Id;
+use server_routes::PublicTarget;
 use std::alloc::{AllocError, Global};
 
 /// Adds the text of a document, where it holds in the period.

@@ -4,12 +4,12 @@ ghost use Rattle.server_public.specs.Response.{query_of};
 ghost use Rattle.server_public.specs.CachedDocuments.{IsFace, IsTold};
 
 use crate::public_documents::PublicDocuments;
-use crate::public_target::PublicTarget;
 use crate::refusal::PublicFault;
 use crate::response::response_of;
 use http::request::Parts;
 use mds_snapshot::Note;
 use server_responses::HttpResult;
+use server_routes::PublicTarget;
 use server_state::HallName;
 use std::alloc::{AllocError, Global};
 

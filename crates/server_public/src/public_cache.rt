@@ -4,10 +4,10 @@ ghost use Rattle.server_public.specs.Switch.{is_public};
 ghost use Rattle.server_public.specs.CachedDocuments.{IsTold};
 
 use crate::cached_documents::{CachedDocuments, DocumentSource};
-use crate::public_target::PublicTarget;
 use crate::switch::is_public;
 use http::request::Parts;
 use server_responses::HttpResult;
+use server_routes::PublicTarget;
 use server_state::HallName;
 use std::alloc::{AllocError, Global};
 use std::sync::{Arc, Mutex, Wait};

@@ -9,8 +9,8 @@ use Rattle.std.proofs.lemmas.Slice.Eq.{bytes_eq-Decides}
 use Rattle.server_page.specs.File.{file_at, files, path_of}
 use Rattle.server_page.specs.declared.file.File.{File}
 use Rattle.server_page.specs.declared.file.File.TheVariants.{IndexHtml, PageCss, AuthorJs, CardsJs, DomJs, FleetJs, GeometryJs, LayersJs, MapJs, PageJs, RulesJs, ServerJs, SettingsJson, StateJs, ZoneJs}
-use Rattle.server_public.specs.Target.{asked_by, geography_at, identifier, list_at, policy_at}
-use Rattle.server_public.specs.declared.public_target.PublicTarget.TheVariants.{Policies, Policy, Geographies, Geography}
+use Rattle.server_routes.specs.Target.{asked_by, geography_at, identifier, list_at, policy_at}
+use Rattle.server_routes.specs.declared.public_target.PublicTarget.TheVariants.{Policies, Policy, Geographies, Geography}
 use Rattle.mds_request.specs.Call.{behind_slash, is_empty, is_slash, rows_at, segments_in}
 use Rattle.server_routes.specs.App.{call_at, events_path, whoami_path, withdrawals_path, drafts_path}
 use Rattle.server_routes.specs.Endpoint.{TablesAreApart}

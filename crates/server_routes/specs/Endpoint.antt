@@ -5,8 +5,8 @@ use Rattle.http.specs.declared.request.Parts.{Parts}
 use Rattle.http_uri.specs.Uri.{uri_path}
 use Rattle.server_page.specs.File.{file_at}
 use Rattle.server_page.specs.declared.file.File.{File}
-use Rattle.server_public.specs.Target.{asked_by}
-use Rattle.server_public.specs.declared.public_target.PublicTarget.{PublicTarget}
+use Rattle.server_routes.specs.Target.{asked_by}
+use Rattle.server_routes.specs.declared.public_target.PublicTarget.{PublicTarget}
 use Rattle.mds_request.specs.Call.{rows_at, segments_in}
 use Rattle.server_routes.specs.App.{call_at}
 

@@ -1,3 +1,4 @@
 pub mod App
 pub mod State
+pub mod Target
 pub mod Endpoint

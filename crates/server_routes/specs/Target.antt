@@ -3,8 +3,8 @@ use Rattle.std.specs.Prelude.{ℕ, List, take, drop, bytes_eq, codes, Option, So
 use Rattle.std.specs.Option.{option_or}
 use Rattle.std.specs.Str.{is_utf8}
 use Rattle.uuid.specs.Text.{parsed}
-use Rattle.server_public.specs.declared.public_target.PublicTarget.{PublicTarget}
-use Rattle.server_public.specs.declared.public_target.PublicTarget.TheVariants.{Policies, Policy, Geographies, Geography}
+use Rattle.server_routes.specs.declared.public_target.PublicTarget.{PublicTarget}
+use Rattle.server_routes.specs.declared.public_target.PublicTarget.TheVariants.{Policies, Policy, Geographies, Geography}
 
 -- the identifier at the end of a path; none where it is none
 abbrev pub identifier : List ℕ → Option (List ℕ)

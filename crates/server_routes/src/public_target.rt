@@ -1,7 +1,7 @@
 //! What a path of the public documents asks for.
 ghost use Rattle.std.specs.Prelude.{◌≡◌};
 ghost use Rattle.std.specs.Option.{option_or};
-ghost use Rattle.server_public.specs.Target.{asked_by, geography_at, identifier, list_at, policy_at};
+ghost use Rattle.server_routes.specs.Target.{asked_by, geography_at, identifier, list_at, policy_at};
 
 use mds_text::Id;
 

@@ -5,19 +5,19 @@ ghost use Rattle.mds_request.specs.declared.config.Actor.TheVariants.{Nobody};
 ghost use Rattle.mds_request.specs.Configuration.{actor_of};
 ghost use Rattle.mds_request.specs.Request.{verb_of};
 ghost use Rattle.server_state.specs.HttpRequest.{target_of, token_of};
-ghost use Rattle.server_public.specs.declared.public_target.PublicTarget.{PublicTarget};
+ghost use Rattle.server_routes.specs.declared.public_target.PublicTarget.{PublicTarget};
 ghost use Rattle.http_uri.specs.Uri.{uri_path};
 ghost use Rattle.server_routes.specs.Endpoint.{AsksFile, AsksPublic, AsksState, public_at};
 ghost use Rattle.server_routes.specs.State.{state_call, state_cost};
 ghost use Rattle.server_routes.specs.declared.resolved.ResolvedHead.TheVariants.{Asset, Public, State};
 
 use crate::app::{app_at, path_of};
+use crate::public_target::PublicTarget;
 use crate::state::{ResolvedState, StateCall, app_call, own_call};
 use http::request::Parts;
 use mds_request::{Actor, Code, Verb};
 use server_admission::Cost;
 use server_page::File;
-use server_public::PublicTarget;
 use server_state::{Hall, HallName, target};
 
 /// A head, and what it asks for: resolved once, before its body is read.

@@ -12,7 +12,7 @@ use Rattle.journal_commit.specs.declared.history.LogName.{Ghosts as Books}
 use Rattle.journal_commit.specs.declared.space.Space.{Ghosts as Spaces}
 use Rattle.server_control.proofs.counters.Counters.TheSendSync as counters
 use Rattle.server_page.proofs.page.Page.TheSendSync as page
-use Rattle.server_http.proofs.moments.MachineClock.TheSendSync as clock
+use Rattle.server_admission.proofs.moments.MachineClock.TheSendSync as clock
 use Rattle.server_public.proofs.Publics.{window_send, window_sync}
 use Rattle.server_durable.proofs.Cities.{reception_send, reception_sync}
 use Rattle.server_site.specs.contracts.site.Site as Site

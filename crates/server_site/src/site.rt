@@ -7,7 +7,7 @@ use journal_file::Log;
 use mds_snapshot::Note;
 use server_control::Counters;
 use server_durable::{DurableHall, DurableService};
-use server_http::MachineClock;
+use server_admission::MachineClock;
 use server_page::Page;
 use server_public::{DocumentSource, PublicCache, PublicDocuments, PublicDocumentsQuery};
 use server_state::HallName;

@@ -2,14 +2,10 @@
 
 use crate::hall_service::HallService;
 use mds_parallel::Chunked;
-use server_http::{Moments, Queues, ServeOutcome, serve_up_to};
+use server_admission::Moments;
+use server_http::{ConnectionRuntime, Queues, ServeOutcome, serve_up_to};
 use server_state::HallName;
-use std::alloc::AllocGlobal;
 use std::io;
-use std::random::RandomSource;
-use std::sync::Wait;
-use std::thread::Threads;
-use std::time::Clock;
 use tokio::net::TcpListener;
 use tokio::runtime::Runtime;
 
@@ -28,7 +24,7 @@ pub fn serve<K, R, M>(
 ) -> io::Result<()>
 where
     K: HallName + Send + Sync,
-    R: Wait + Threads + Clock + RandomSource + AllocGlobal + Sync + Send + Copy + Drop,
+    R: ConnectionRuntime,
     M: Moments + Send + Sync,
 {
     let ended = serve_up_to(rt, runtime, listener, reception, queues, connections);

@@ -1,6 +1,7 @@
 //! Group commit over a journal in memory whose calls fail from the Nth on.
 ghost use Rattle.std.specs.Prelude.{◌≡◌, ℕ, List};
 
+use crate::runtime::{JoinRuntime, TestRuntime};
 use futures::executor::block_on;
 use journal_commit::{
     AwaitSync, CommitFault, CommitLog, CountedSpace, FlushFault, LogName, LogPosition,
@@ -9,11 +10,9 @@ use journal_commit::{
 use journal_file::{AppendFault, Journal, Log, MemoryStorage};
 use std::alloc::{AllocError, AllocGlobal, Global};
 use std::marker::Brand;
-use std::process::Abort;
-use std::random::RandomSource;
 use std::sync::{Arc, Wait};
 use std::test::Fail;
-use std::thread::{Threads, join};
+use std::thread::join;
 
 /// How many clients there are.
 const CLIENTS: usize = 6;
@@ -42,7 +41,7 @@ fn text(rt: &impl AllocGlobal, text: &[u8]) -> Result<Vec<u8>, AllocError> {
 }
 
 /// Appends a payload, and waits until it is synced for the response that shows it.
-fn reply_once_synced<K: LogName, L: Log, R: Wait + RandomSource + AllocGlobal>(
+fn reply_once_synced<K: LogName, L: Log, R: JoinRuntime>(
     rt: &R,
     keeper: &Arc<CommitLog<K, L, CountedSpace>>,
     text: &[u8],
@@ -85,7 +84,7 @@ struct ClientReplies {
     is_free: bool,
 }
 
-fn client_replies<K: LogName, L: Log, R: Wait + RandomSource + AllocGlobal>(
+fn client_replies<K: LogName, L: Log, R: JoinRuntime>(
     rt: &R,
     keeper: &Arc<CommitLog<K, L, CountedSpace>>,
 ) -> Result<ClientReplies, Fail> {
@@ -112,7 +111,7 @@ fn serve_client<K, L, R>(
 where
     K: LogName + Send + Sync,
     L: Log + Send + Sync,
-    R: Wait + Threads + RandomSource + AllocGlobal + Sync,
+    R: JoinRuntime,
     requires book { opened.seen.book ≡ K.book }
     requires listed { (first : List (List ℕ)) × L.may_be log first }
 {
@@ -150,7 +149,7 @@ fn storage(alloc: Global, calls_left: u32) -> MemoryStorage {
 }
 
 /// Serves one client over a journal on whose storage so many calls succeed.
-fn serve_over_journal<R: Wait + Threads + RandomSource + AllocGlobal + Sync>(
+fn serve_over_journal<R: JoinRuntime>(
     rt: &R,
     calls_left: u32,
 ) -> Result<(Result<Journal<MemoryStorage>, FlushFault>, ClientReplies), Fail> {
@@ -195,7 +194,7 @@ fn reservations_are_bounded(rt: HostRuntime) -> Result<(), Fail> {
     expect_bounds_over_journal(&rt)
 }
 
-fn expect_bounds_over_journal<R: Wait + Abort + AllocGlobal>(rt: &R) -> Result<(), Fail> {
+fn expect_bounds_over_journal<R: TestRuntime>(rt: &R) -> Result<(), Fail> {
     let Ok(mut log) = Journal::open(rt.alloc(), storage(rt.alloc(), 3)) else {
         return Err("a journal".into());
     };
@@ -206,7 +205,7 @@ fn expect_bounds_over_journal<R: Wait + Abort + AllocGlobal>(rt: &R) -> Result<(
 }
 
 /// Tries reservations where there is room for one record of three bytes, which takes 59.
-fn expect_bounds<K: LogName, L: Log, R: Wait + Abort + AllocGlobal>(
+fn expect_bounds<K: LogName, L: Log, R: TestRuntime>(
     rt: &R,
     opened: UnnamedHistory<L>,
     log: L,
@@ -246,7 +245,7 @@ fn many_reservations_are_settled_together(rt: HostRuntime) -> Result<(), Fail> {
     expect_settlement_over_journal(&rt)
 }
 
-fn expect_settlement_over_journal<R: Wait + Abort + AllocGlobal>(rt: &R) -> Result<(), Fail> {
+fn expect_settlement_over_journal<R: TestRuntime>(rt: &R) -> Result<(), Fail> {
     let Ok(mut log) = Journal::open(rt.alloc(), storage(rt.alloc(), 3)) else {
         return Err("a journal".into());
     };
@@ -266,7 +265,7 @@ fn texts(rt: &impl AllocGlobal, count: usize) -> Result<Vec<Vec<u8>>, Fail> {
 }
 
 /// Tries reservations of several records where there is room for two of three bytes, which take 118.
-fn expect_settlement<K: LogName, L: Log, R: Wait + Abort + AllocGlobal>(
+fn expect_settlement<K: LogName, L: Log, R: TestRuntime>(
     rt: &R,
     opened: UnnamedHistory<L>,
     log: L,
@@ -322,7 +321,7 @@ fn reservations_are_shared_out(rt: HostRuntime) -> Result<(), Fail> {
     expect_shares_over_journal(&rt)
 }
 
-fn expect_shares_over_journal<R: Wait + Abort + AllocGlobal>(rt: &R) -> Result<(), Fail> {
+fn expect_shares_over_journal<R: TestRuntime>(rt: &R) -> Result<(), Fail> {
     let Ok(mut log) = Journal::open(rt.alloc(), storage(rt.alloc(), 3)) else {
         return Err("a journal".into());
     };
@@ -351,7 +350,7 @@ fn append_waiting<K: LogName, L: Log, R: Wait + AllocGlobal>(
 }
 
 /// Three clients use up their shares, and a fourth all but a reservation for each of two others.
-fn expect_shares<K: LogName, L: Log, R: Wait + Abort + AllocGlobal>(
+fn expect_shares<K: LogName, L: Log, R: TestRuntime>(
     rt: &R,
     opened: UnnamedHistory<L>,
     log: L,

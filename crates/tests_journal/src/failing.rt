@@ -1,11 +1,12 @@
 //! Compaction of a journal on a disk that fails at each of its calls.
+use crate::runtime::TestRuntime;
 use crate::disk::{Disk, FailingCalls, JournalOnDisk, NewFileStorage};
 use crate::journal::{COMPACTED, OLD, texts};
 use journal_compaction::{CompactFault, Counts, SourceJournal, compact_at};
 use journal_file::Journal;
 use journal_folder::FolderFault;
 use mds_text::Moment;
-use std::alloc::{AllocGlobal, Global};
+use std::alloc::Global;
 use std::process::Abort;
 use std::sync::Wait;
 use tests_fixtures::CONFIGURATION;
@@ -86,7 +87,7 @@ fn compact_on<R: Wait>(rt: &R, alloc: Global, disk: &Disk) -> CompactionOutcome 
 
 /// Compacts with one allocation that may be refused: then the outcome is `NoMemory`, the old journal is still there,
 /// and a second call succeeds. `None` where the allocation was one of the test's own.
-fn compacts<R: Wait + Abort + AllocGlobal>(rt: &R) -> Option<()> {
+fn compacts<R: TestRuntime>(rt: &R) -> Option<()> {
     let alloc = rt.alloc();
     let old = texts(alloc, OLD)?;
     let thinned = texts(alloc, COMPACTED)?;
@@ -111,7 +112,7 @@ fn has_journal(rt: &impl Abort, disk: &Disk, texts: &[Vec<u8>]) -> bool {
 /// Compacts on a disk on which so many calls succeed. Then the fault is reported, and the old journal is still there;
 /// or the compacted one, where it was renamed and it isn't known whether that is synced. A second call on the mended
 /// disk succeeds, and then the compacted journal is there.
-fn fails<R: Wait + Abort + AllocGlobal>(rt: &R, calls: u32, failing: FailingCalls) {
+fn fails<R: TestRuntime>(rt: &R, calls: u32, failing: FailingCalls) {
     let alloc = rt.alloc();
     let old = texts(alloc, OLD).expect(rt, "a journal");
     let thinned = texts(alloc, COMPACTED).expect(rt, "a thinned journal");

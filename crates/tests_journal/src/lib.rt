@@ -17,3 +17,5 @@ mod kept_entries;
 mod restart;
 #[cfg(test)]
 mod rolling;
+#[cfg(test)]
+mod runtime;

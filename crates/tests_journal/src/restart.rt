@@ -2,15 +2,14 @@
 ghost use Rattle.std.specs.Prelude.{◌≡◌};
 ghost use Rattle.mds_snapshot.specs.Opening.{book_of};
 
+use crate::runtime::TestRuntime;
 use crate::journal::{TimedExchange, configuration, entries, request};
 use journal_recovery::{SilentProgress, start_again};
 use mds_desk::{AuthorRoom, Desk, OpenGate, SharedReply};
 use mds_request::Config;
 use mds_snapshot::{Blank, OpeningName, prepare};
 use mds_verdict::Plain;
-use std::alloc::AllocGlobal;
 use std::marker::Brand;
-use std::process::Abort;
 use std::sync::Wait;
 use tests_fixtures::{
     EXCEEDED, FixtureExchange, GEOGRAPHIES, NONE_FOR_BRAVO, PUBLISH, PUT_CAP, PUT_SQUARE,
@@ -62,7 +61,7 @@ fn desk_replies<K: OpeningName>(
 
 /// Checks that a room and desks replayed from a journal reply as those that wrote it: the desks know what was
 /// published, and alfa's has both vehicles; the room goes on at the next revision.
-fn go_on<K: OpeningName, R: Wait + Abort + AllocGlobal>(
+fn go_on<K: OpeningName, R: TestRuntime>(
     rt: &R,
     config: Config,
     blank: Blank,

@@ -6,7 +6,8 @@ ghost use Rattle.mds_snapshot.specs.Opening.{book_of};
 use mds_request::Config;
 use mds_snapshot::{Blank, prepare};
 use mds_text::Moment;
-use server_http::{Moments, Queues, bind_first};
+use server_admission::Moments;
+use server_http::{ConnectionRuntime, Queues, bind_first};
 use server_start::{HallService, serve};
 use server_state::{Hall, HallName};
 use std::alloc::{AllocGlobal, Global};
@@ -14,16 +15,18 @@ use std::io::{self, Read, Write};
 use std::marker::Brand;
 use std::net::{Net, SocketAddr, TcpStream};
 use std::process::Abort;
-use std::random::RandomSource;
-use std::sync::Wait;
 use std::test::Fail;
-use std::thread::{Threads, join};
-use std::time::Clock;
+use std::thread::join;
 use tokio::net::TcpListener;
 use tokio::runtime::Runtime;
 
 const CONFIGURATION: &[u8] =
     br#"{"author":"city","operators":[{"id":"00000000-0000-4000-8000-0000000000a1","limit":2,"token":"alfa"},{"id":"00000000-0000-4000-8000-0000000000b1","limit":2,"token":"bravo"}],"zone":"Z"}"#;
+
+/// What these tests need of the runtime, besides its sockets.
+trait LoopbackRuntime: ConnectionRuntime + Abort {}
+
+impl<R: ConnectionRuntime + Abort> LoopbackRuntime for R {}
 
 /// A request, and the status and the body of its answer.
 struct LoopbackExchange {
@@ -203,7 +206,7 @@ fn listen_with_clients<R: Net<Stream = TcpStream> + AllocGlobal>(
 
 fn setup_of<R>(rt: &R, exchanges: &[LoopbackExchange]) -> io::Result<LoopbackSetup>
 where
-    R: Clock + Net<Stream = TcpStream> + RandomSource + AllocGlobal,
+    R: LoopbackRuntime + Net<Stream = TcpStream>,
 {
     let runtime = Runtime::with_worker_threads(rt, 2)?;
     let (listener, clients) = listen_with_clients(rt, &runtime, exchanges)?;
@@ -223,17 +226,7 @@ fn serve_script<K: HallName + Send + Sync, R>(
     script: Script,
 ) -> Result<(), Fail>
 where
-    R: Wait
-        + Threads
-        + Clock
-        + Net<Stream = TcpStream>
-        + RandomSource
-        + AllocGlobal
-        + Abort
-        + Sync
-        + Send
-        + Copy
-        + Drop,
+    R: LoopbackRuntime + Net<Stream = TcpStream>,
     requires book { book_of blank ≡ K.book }
     requires configured { configuration config ≡ K.configuration }
 {
@@ -255,16 +248,7 @@ fn send_and_serve<K: HallName + Send + Sync, R>(
     moments: FixedClock,
 ) -> (bool, io::Result<()>)
 where
-    R: Wait
-        + Threads
-        + Clock
-        + Net<Stream = TcpStream>
-        + RandomSource
-        + AllocGlobal
-        + Sync
-        + Send
-        + Copy
-        + Drop,
+    R: LoopbackRuntime + Net<Stream = TcpStream>,
 {
     let LoopbackSetup {
         mut runtime,
@@ -283,17 +267,7 @@ where
 /// Runs one of the scripts.
 fn run_script<R>(rt: &R, script: Script) -> Result<(), Fail>
 where
-    R: Wait
-        + Threads
-        + Clock
-        + Net<Stream = TcpStream>
-        + RandomSource
-        + AllocGlobal
-        + Abort
-        + Sync
-        + Send
-        + Copy
-        + Drop,
+    R: LoopbackRuntime + Net<Stream = TcpStream>,
 {
     let config = Config::read(rt.alloc(), CONFIGURATION)?;
     let blank = prepare(rt.alloc())?;

@@ -8,8 +8,8 @@ use Rattle.mds_verdict.proofs.Counting.{at_document, gathered_more, evaluated_an
 use Rattle.mds_bitmaps.proofs.Counted.{adds_by_since}
 use Rattle.mds_bitmaps.proofs.columns.count.Goals as goal
 
-pub returns-in_ok-count_in : goal.returns-in_ok-count_in
-returns-in_ok-count_in c polygons rows row local device_is since_is is_first held =
+pub returns-in_ok-count_device : goal.returns-in_ok-count_device
+returns-in_ok-count_device c polygons rows row local device_is since_is is_first held =
     let policy = policy_document c.args.policy.now in
     let moment = c.args.moment in
     let number = c.args.number in
@@ -22,9 +22,9 @@ returns-in_ok-count_in c polygons rows row local device_is since_is is_first hel
     let before = measured policy number rule polygons rows local moment in
     let is : old ≡ gathered_rule rule local before =
     ap verdict_document (sym c.index-held-number.is) ∙ sym there ∙ get_or-values policy polygons rows local moment (λ k r rs. gathered_rule r local rs) number rule (verdict_document c.index-held-number.result) within here in
-    let now = c.in_ok-count_in.ensures in
-    map-set verdict_document c.args.held.now number c.count_in.new.verdict
-    ∙ ap (set (map verdict_document c.args.held.now) number) (gathered_more rule local before row old (verdict_document c.count_in.new.verdict) (evaluated_and_open policy polygons row local number rule found here) is (rw device_is now))
+    let now = c.in_ok-count_device.ensures in
+    map-set verdict_document c.args.held.now number c.count_device.new.verdict
+    ∙ ap (set (map verdict_document c.args.held.now) number) (gathered_more rule local before row old (verdict_document c.count_device.new.verdict) (evaluated_and_open policy polygons row local number rule found here) is (rw device_is now))
     ∙ ap (λ vs. set vs number (gathered_rule rule local (before ++ row ∷ []))) held
     ∙ sym (values-adding policy polygons rows row local moment (λ k r rs. gathered_rule r local rs) number rule found within here (sym (adds_by_since rule.kind rule.bounds moment c.args.since row since_is) ∙ sym c.adds_since.ensures ∙ c.if-adds_since.true))
 

@@ -9,8 +9,8 @@ use Rattle.mds_verdict.specs.Verdict.{measured, verdict_document}
 use Rattle.mds_verdict.proofs.Counting.{at_document, gathered_more, evaluated_and_open, get_or-values, values-adding, values-not_adding}
 use Rattle.mds_verdict.proofs.tally.count.Goals as goal
 
-pub returns-in_ok-count_in : goal.returns-in_ok-count_in
-returns-in_ok-count_in c polygons rows local is_first held =
+pub returns-in_ok-count_device : goal.returns-in_ok-count_device
+returns-in_ok-count_device c polygons rows local is_first held =
     let policy = policy_document c.args.policy.now in
     let row = row_of c.args.vehicle.now in
     let moment = c.args.moment in
@@ -24,8 +24,8 @@ returns-in_ok-count_in c polygons rows local is_first held =
     let before = measured policy number rule polygons rows local moment in
     let is : old ≡ gathered_rule rule local before =
     ap verdict_document (sym c.index-held-number.is) ∙ sym there ∙ get_or-values policy polygons rows local moment (λ k r rs. gathered_rule r local rs) number rule (verdict_document c.index-held-number.result) within here in
-    map-set verdict_document c.args.held.now number c.count_in.new.verdict
-    ∙ ap (set (map verdict_document c.args.held.now) number) (gathered_more rule local before row old (verdict_document c.count_in.new.verdict) (evaluated_and_open policy polygons row local number rule found here) is c.in_ok-count_in.ensures)
+    map-set verdict_document c.args.held.now number c.count_device.new.verdict
+    ∙ ap (set (map verdict_document c.args.held.now) number) (gathered_more rule local before row old (verdict_document c.count_device.new.verdict) (evaluated_and_open policy polygons row local number rule found here) is c.in_ok-count_device.ensures)
     ∙ ap (λ vs. set vs number (gathered_rule rule local (before ++ row ∷ []))) held
     ∙ sym (values-adding policy polygons rows row local moment (λ k r rs. gathered_rule r local rs) number rule found within here (sym c.adds.ensures ∙ c.if-adds.true))
 

@@ -1,6 +1,6 @@
 //! The moments at which requests are answered.
+use crate::moment::moment_of;
 use mds_text::Moment;
-use server_admission::moment_of;
 use std::time::{Clock, SystemTime, UNIX_EPOCH};
 
 /// Gives the moment of a request.
