@@ -18,7 +18,7 @@ import sys
 import tempfile
 
 from kept import City, replayed, split
-from kills import LOAD_SECONDS, OPERATOR, POLICY, RULE, SQUARE, Asker, ask_until_killed, main
+from kills import LOAD_SECONDS, OPERATOR, POLICY, RULE, SQUARE, Client, ask_until_killed, main
 from wire import AUTHOR, FIRST, identifier
 
 CONNECTIONS, AUTHORS = 8, 2
@@ -30,7 +30,7 @@ def configuration():
     return {"author": AUTHOR, "operators": [{"id": identifier(OPERATOR, 1), "limit": 3, "token": FIRST}], "zone": "Z"}
 
 
-class Reporter(Asker):
+class Reporter(Client):
     """Reports the one device, each time at a later second that no other connection has."""
 
     def __init__(self, number, seconds, seed):
@@ -45,7 +45,7 @@ class Reporter(Asker):
         )
 
 
-class Author(Asker):
+class Author(Client):
     """Drafts a policy, replaces the draft, and publishes it, each time one that no other connection has."""
 
     def __init__(self, number, names, seed):
@@ -91,7 +91,7 @@ class Life:
     def __init__(self, city, replay, seed):
         self.city, self.replay = city, replay
         seconds, names = itertools.count(10_000), itertools.count(1)
-        self.askers = [Reporter(it, seconds, seed) for it in range(CONNECTIONS)] + [Author(it, names, seed) for it in range(AUTHORS)]
+        self.clients = [Reporter(it, seconds, seed) for it in range(CONNECTIONS)] + [Author(it, names, seed) for it in range(AUTHORS)]
         self.lines, self.asked = [], 0
 
     def faults(self):
@@ -102,17 +102,17 @@ class Life:
             return
         answers = replayed(self.replay, first, lines)
         new = [(split(line)[1], answer) for line, answer in zip(lines, answers)][len(self.lines) :]
-        for it in self.askers:
+        for it in self.clients:
             yield from self.otherwise(it, new)
-        known = {it.line(asked) for it in self.askers for asked in [*(one[0] for one in it.answered), it.open] if asked}
+        known = {it.line(asked) for it in self.clients for asked in [*(one[0] for one in it.answered), it.open] if asked}
         if strange := [asked for asked, _ in new if asked not in known]:
             yield f"the journal has {strange[0][:200]!r}, which nobody asked"
         self.lines = lines
 
     @staticmethod
-    def otherwise(asker, new):
+    def otherwise(client, new):
         """What a connection was told otherwise than a replay of the journal tells, or than the journal has."""
-        told = asker.kept()
+        told = client.kept()
         mine = {line for line, _ in told}
         found = [(asked, answer) for asked, answer in new if asked in mine]
         if found == told:
@@ -134,7 +134,7 @@ def lives(tried, program, kills, replay, seed):
             publish_square(server)
             life.lines = life.city.audit()[1]
             for number in range(before, min(before + KILLS_OF_A_FOLDER, kills)):
-                life.asked += ask_until_killed(life.askers, server, choice.uniform(0.02, LOAD_SECONDS))
+                life.asked += ask_until_killed(life.clients, server, choice.uniform(0.02, LOAD_SECONDS))
                 server = stack.enter_context(life.city.serve())
                 tried.one(f"kill {number + 1}", life.faults())
             asked, kept = asked + life.asked, kept + len(life.lines)

@@ -48,7 +48,7 @@ def configuration():
     return {"author": AUTHOR, "operators": operators, "zone": "Z"}
 
 
-class Asker:
+class Client:
     """Who asks over one connection, one request behind the other."""
 
     def __init__(self, token, seed):
@@ -75,7 +75,7 @@ class Asker:
         return [(self.line(asked), f"{status} {body}") for asked, status, body in self.answered if asked[0] != "GET" and status == 200]
 
 
-class Operator(Asker):
+class Operator(Client):
     """Reports, removes and asks."""
 
     def __init__(self, number, seed):
@@ -96,14 +96,14 @@ class Operator(Asker):
         return "POST", "/fleet/events", report
 
 
-class Watcher(Asker):
+class Watcher(Client):
     """Reads what another connection of the first operator reports."""
 
     def next(self):
         return "GET", ("/fleet/vehicles", "/compliance")[self.count % 2], ""
 
 
-class Author(Asker):
+class Author(Client):
     """Drafts and publishes: the square first, and then one policy at a time in the place of the one before."""
 
     def __init__(self, seed):
@@ -148,16 +148,16 @@ def numbers(name, texts):
         yield from map(int, re.findall(rf'"{name}":(\d+)', text))
 
 
-def ask_until_killed(askers, server, seconds):
+def ask_until_killed(clients, server, seconds):
     """All of them ask, until the server is killed; how many requests were answered."""
-    asking = [threading.Thread(target=it.ask_all, args=(server.port,), daemon=True) for it in askers]
+    asking = [threading.Thread(target=it.ask_all, args=(server.port,), daemon=True) for it in clients]
     for it in asking:
         it.start()
     time.sleep(seconds)
     server.stop()
     for it in asking:
         it.join()
-    return sum(len(it.answered) for it in askers)
+    return sum(len(it.answered) for it in clients)
 
 
 class Life:

@@ -31,7 +31,7 @@ TO_TELL = 4
 SIDE_BY_SIDE = 3
 
 # The server's limits: connections of all, of those without an access token, of one operator.
-SEATS, STRANGERS, ASKER_SEATS = 4_096, 2_048, 512
+SEATS, MOST_ANONYMOUS, ASKER_SEATS = 4_096, 2_048, 512
 # Bytes of the bodies that come or wait, of one who asks and of all.
 WAITING_BODIES, ALL_BODIES = 64 << 20, 256 << 20
 IDLE_TAKING = 30
@@ -261,17 +261,17 @@ def knocks(load, operators):
             yield f"{name} knocks, and is answered {answer}"
 
 
-def idle_strangers(load):
-    """As many connections as there are seats, or more than strangers may hold, none of which says anything."""
-    for _ in range(STRANGERS + 100 if load.is_short else SEATS):
+def idle_anonymous(load):
+    """As many connections as there are seats, or more than anonymous clients may hold, none of which says anything."""
+    for _ in range(MOST_ANONYMOUS + 100 if load.is_short else SEATS):
         load.link()
     yield from knocks(load, range(4))
-    load.lasts(lambda: load.others() <= STRANGERS + OTHERS)
+    load.lasts(lambda: load.others() <= MOST_ANONYMOUS + OTHERS)
     yield from knocks(load, range(4))
-    if load.others() > STRANGERS + OTHERS:
-        yield f"strangers hold {load.others()} connections, of {STRANGERS} that they may hold"
-    if load.others() < STRANGERS - OTHERS:
-        yield f"strangers hold {load.others()} connections alone"
+    if load.others() > MOST_ANONYMOUS + OTHERS:
+        yield f"anonymous clients hold {load.others()} connections, of {MOST_ANONYMOUS} that they may hold"
+    if load.others() < MOST_ANONYMOUS - OTHERS:
+        yield f"anonymous clients hold {load.others()} connections alone"
 
 
 def is_open(link):
@@ -487,7 +487,7 @@ LOADS = {
     "200 readers that never read a list of 4 MB": Kind(never_read(200), a_large_list, 20, 200, True),
     "2,000 readers that never read a list of 4 MB": Kind(never_read(2_000), a_large_list, 100, 2_000, False),
     "100 readers that take a byte a second": Kind(a_byte_a_second, a_large_list, 10, 100, True),
-    "4,096 idle connections without a token": Kind(idle_strangers, None, 64, SEATS, True),
+    "4,096 idle connections without a token": Kind(idle_anonymous, None, 64, SEATS, True),
     "600 connections by one operator": Kind(six_hundred_by_one, None, 20, 600, True),
     "4,096 connections by eight operators": Kind(all_seats_taken, None, 128, SEATS, False),
     "300 uploads of 1 MB that stop before their last byte": Kind(stopped_uploads, None, 128, 300, True),
@@ -509,7 +509,7 @@ def chosen(is_short):
         print("the loads run side by side: what another operator waits for is told, and not judged")
     elif PATIENCE > 1:
         print(f"the program isn't proved: another operator may wait {PATIENCE} times as long")
-    wanted = (STRANGERS if is_short else SEATS) + 500
+    wanted = (MOST_ANONYMOUS if is_short else SEATS) + 500
     if (most := may_open(wanted)) < wanted:
         few = [name for name in names if LOADS[name].connections > 1_000]
         print(f"only {most} files may be open (ulimit -Hn), so these are left out: {'; '.join(few)}")

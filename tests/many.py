@@ -5,7 +5,7 @@
 
 Expects the answers that docs/HTTP.md gives for each line, worked out by hand, and those that single requests have at a second city
 that was asked the same before; that an answer of many lines has one line for each that isn't empty, in order; that a body over the limit,
-the author, another method, a stranger and more lines than may wait are refused and change nothing; that after SIGKILL behind the answer
+the author, another method, an anonymous client and more lines than may wait are refused and change nothing; that after SIGKILL behind the answer
 all that was taken is there again, and that the journal has an entry for each report that was taken, in the order of the lines; and that a
 full disk refuses all of the lines or none. Prints what is otherwise, and last 'N passed, M failed'; ends with 1 where one failed.
 """
@@ -122,7 +122,7 @@ def refusals(program):
     """What is refused as a whole changes nothing."""
     with Alone(program, limit=9) as server:
         refused(server.ask("POST", PATH, AUTHOR, report(1)), 403, "role", "the author")
-        refused(server.ask("POST", PATH, "nobody", report(1)), 401, "token", "a stranger")
+        refused(server.ask("POST", PATH, "nobody", report(1)), 401, "token", "an anonymous client")
         for method in ("GET", "PUT", "DELETE", "PATCH"):
             refused(server.ask(method, PATH, FIRST), 405, "method", method)
         for path in (PATH + "/", "/app/fleet", "/app", "/app/fleet/events/x", "/App/fleet/events"):

@@ -387,7 +387,7 @@ def the_port_of_tries(nginx):
     if status != 200 or json.loads(body)["fields"]["host"] != PORTLAND:
         yield f"a city's name: {status} {body[:100]!r}"
     if nginx.stands.asked[port]:
-        yield f"a port of the asker's choice was asked: {nginx.stands.asked[port]}"
+        yield f"a port of the client's choice was asked: {nginx.stands.asked[port]}"
     nginx.stands.stop(port)
 
 

@@ -97,7 +97,7 @@ def a_whole_uri_is_told(link):
 
 
 def others_are_untouched(link):
-    """Paths of the protocol, and paths of nothing, are answered as without a page: a stranger's token is refused."""
+    """Paths of the protocol, and paths of nothing, are answered as without a page: an anonymous client's token is refused."""
     for path in OTHERS:
         for method in ("GET", "HEAD", "POST"):
             status, fields, body = ask(link, method, path, "*")

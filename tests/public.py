@@ -9,7 +9,7 @@ docs/openapi-mds.yaml (Debian's python3-yaml); nothing of a policy of one operat
 of a withdrawal as its `end_date`; `start_date` and `end_date` as queries of the list; fronts of the publications, none earlier than one
 before, to many who ask at once; the same after a restart; the version in the type, 406 for another one, 405 with `allow`, 404 and 400 with
 an error by the standard; a page of any origin may read it; the same without a body for HEAD; and that all of it is refused as to a
-stranger where the configuration doesn't turn it on. Prints what is otherwise, and last 'N passed, M failed'; ends with 1 where one failed.
+anonymous where the configuration doesn't turn it on. Prints what is otherwise, and last 'N passed, M failed'; ends with 1 where one failed.
 """
 
 import json
@@ -362,21 +362,21 @@ def many_ask_at_once(program):
     with Alone(program, open_to_all(configuration())) as city:
         over, known, faults = threading.Event(), [identifier(2, n) for n in range(1, 21)], []
         seen = [[] for _ in range(4)]
-        askers = [threading.Thread(target=asking, args=(city, over, it, faults)) for it in seen]
+        clients = [threading.Thread(target=asking, args=(city, over, it, faults)) for it in seen]
         publish(city, [geography(SQUARE, "square")])
-        for it in askers:
+        for it in clients:
             it.start()
         try:
             for number in known:
                 publish(city, (), [policy(number, [SQUARE], EARLY)])
         finally:
             over.set()
-            for it in askers:
+            for it in clients:
                 it.join()
         expect(not faults, f"{faults}")
-        for asker in seen:
-            expect(all(it == known[: len(it)] for it in asker), "no front of what is published")
-            lengths = [len(it) for it in asker]
+        for client in seen:
+            expect(all(it == known[: len(it)] for it in client), "no front of what is published")
+            lengths = [len(it) for it in client]
             expect(lengths == sorted(lengths), f"an earlier front behind a later one: {lengths}")
         given = ids(told(city, "/mds/2.0/policies", "policies"), "policies", "policy_id")
         expect(given == known, f"behind the last publication: {given}")
@@ -384,7 +384,7 @@ def many_ask_at_once(program):
 
 
 def it_is_off(program, says):
-    """Where the configuration doesn't turn it on these paths are a stranger's."""
+    """Where the configuration doesn't turn it on these paths are an anonymous client's."""
     with Alone(program, configuration() if says is None else open_to_all(configuration(), says)) as city:
         expect(not city.tells_everyone, "the program said that everyone is told")
         for target in ("/mds/2.0/policies", "/mds/2.0/geographies", f"/mds/2.0/policies/{CAP}"):

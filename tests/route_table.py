@@ -2,8 +2,8 @@
 program's answers.
 
 A table has blocks. A block's first line has targets, which all are answered alike, and behind a bar the methods that they have, which the
-field `allow` of a 405 lists (RFC 9110, section 15.5.6). Each further line has methods, and what the author, an operator and a stranger are
-told: 200, or the code of a refusal. A stranger is who has a wrong access token, and who has none. What has an exclamation mark may change
+field `allow` of a 405 lists (RFC 9110, section 15.5.6). Each further line has methods, and what the author, an operator and an anonymous client are
+told: 200, or the code of a refusal. Anonymous is who has a wrong access token, and who has none. What has an exclamation mark may change
 something: where the disk has no room it is refused with `no_room`. All else is told as it stands here, whatever the disk.
 
 A table of single requests has for each the method, the target, who asks, the name of its body, and what is told. They have two faults at
@@ -16,7 +16,7 @@ The city has a published policy `{policy}` for everyone, with a rule in the publ
 import collections
 
 METHODS = ("GET", "HEAD", "POST", "PUT", "DELETE", "OPTIONS", "PATCH")
-WHO = ("author", "operator", "stranger")
+WHO = ("author", "operator", "anonymous")
 
 # Targets, the methods that they have, and what each who asks is told, by the method.
 Block = collections.namedtuple("Block", "targets allow cells")
@@ -179,13 +179,13 @@ PUBLIC = """
 ORDER = """
 OPTIONS  *                                author    none     no_route
 OPTIONS  *                                operator  none     no_route
-OPTIONS  *                                stranger  none     token
+OPTIONS  *                                anonymous  none     token
 GET      /policies                        author    cut      bad_body
-POST     /nothing                         stranger  cut      bad_body
+POST     /nothing                         anonymous  cut      bad_body
 PUT      /drafts/policies/x               operator  cut      bad_body
 POST     /publish                         operator  cut      bad_body
 GET      /policies                        author    long     too_large
-POST     /nothing                         stranger  long     too_large
+POST     /nothing                         anonymous  long     too_large
 PATCH    /nothing                         author    long     too_large
 PUT      /policies                        operator  long     too_large
 POST     /publish                         operator  long     too_large
@@ -208,7 +208,7 @@ DELETE   /drafts/geographies/{unknown}    author    none     no_draft!
 # The same of what ruffletuff alone answers. A body of which no line may be a report changes nothing.
 APP_ORDER = """
 POST     /app/fleet/events                author    cut      bad_body
-GET      /app/whoami                      stranger  long     too_large
+GET      /app/whoami                      anonymous  long     too_large
 POST     /app/fleet/events                author    long     too_large
 PUT      /app/fleet/events                operator  long     too_large
 POST     /app/fleet/events                operator  none     200
@@ -225,8 +225,8 @@ def blocks(table):
         targets, _, allow = first.partition("|")
         cells = {}
         for line in lines:
-            *methods, author, operator, stranger = line.split()
-            cells |= {it: dict(zip(WHO, (author, operator, stranger))) for it in methods}
+            *methods, author, operator, anonymous = line.split()
+            cells |= {it: dict(zip(WHO, (author, operator, anonymous))) for it in methods}
         if sorted(cells) != sorted(METHODS) or sum(len(it.split()) - len(WHO) for it in lines) != len(METHODS):
             raise ValueError(f"not each method stands once: {first}")
         found.append(Block(targets.split(), allow.strip(), cells))

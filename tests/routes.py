@@ -38,7 +38,7 @@ from messages import BODY_LIMIT
 from route_table import APP, APP_ORDER, METHODS, NOWHERE, ORDER, PAGE, PROTOCOL, PUBLIC, STATUS, WHO, blocks, nowhere, singles
 from wire import PATIENCE, SECONDS, Closed, identifier, report, request
 
-TOKENS = {"author": (AUTHOR,), "operator": (ALFA,), "stranger": ("nobody", "")}
+TOKENS = {"author": (AUTHOR,), "operator": (ALFA,), "anonymous": ("nobody", "")}
 # What the table speaks of.
 CAP, OTHERS, WITHDRAWN, DRAFT, UNKNOWN = 1, 2, 3, 4, 9
 NAMES = {

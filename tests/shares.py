@@ -80,7 +80,7 @@ def policies():
             yield "POST", "/publish", these_policies(name)
 
 
-class Asker(threading.Thread):
+class Client(threading.Thread):
     """Asks one change after another until it is over: keeps how long each took, and what wasn't answered 200."""
 
     def __init__(self, port, token, changes, over, pause=None):
@@ -120,7 +120,7 @@ class Asker(threading.Thread):
         self.link = None
 
 
-class Sender(Asker):
+class Sender(Client):
     """Sends bodies of many lines, and looks at each line of the answers."""
 
     def __init__(self, port, bodies, over):
@@ -231,29 +231,29 @@ class Others:
 
     def __init__(self, port, over):
         self.of = {
-            "another operator": [Asker(port, SECOND, reports_of(it), over) for it in range(CONNECTIONS)],
-            "a third operator": [Asker(port, THIRD, reports_of(1), over, PAUSE)],
-            "the author": [Asker(port, AUTHOR, policies(), over)],
+            "another operator": [Client(port, SECOND, reports_of(it), over) for it in range(CONNECTIONS)],
+            "a third operator": [Client(port, THIRD, reports_of(1), over, PAUSE)],
+            "the author": [Client(port, AUTHOR, policies(), over)],
         }
 
     def all(self):
         return [it for some in self.of.values() for it in some]
 
 
-def lasting(seconds, over, askers):
+def lasting(seconds, over, senders):
     """All of these ask for so long."""
-    for it in askers:
+    for it in senders:
         it.start()
     over.wait(seconds)
     over.set()
-    for it in askers:
+    for it in senders:
         it.join()
 
 
-def accepted(askers, most):
+def accepted(senders, most):
     """What is wrong with the changes of who asks over these connections: each is accepted, within so many seconds, if that is judged."""
-    others = [it for asker in askers for it in asker.others]
-    times = [it for asker in askers for it in asker.times]
+    others = [it for client in senders for it in client.others]
+    times = [it for client in senders for it in client.times]
     yield from (f"a change is answered {answer}" for _, answer, _ in others[:2])
     if len(others) > 2:
         yield f"{len(others)} changes aren't accepted, and {len(times) - len(others)} are"
@@ -263,9 +263,9 @@ def accepted(askers, most):
         yield f"the 99th percentile of a change is {1e3 * high_of(times):.0f} ms, and may be {1e3 * most:.0f}"
 
 
-def told(name, askers):
+def told(name, senders):
     """Tells how many changes who asks over these connections had answered, and how long they took."""
-    times = [it for asker in askers for it in asker.times]
+    times = [it for client in senders for it in client.times]
     waited = f"median {1e3 * statistics.median(times):.1f} ms, 99th percentile {1e3 * high_of(times):.1f} ms" if times else "none"
     print(f"{name}: {len(times)} changes, {waited}", flush=True)
 
@@ -280,14 +280,14 @@ def under_load(tried, what, server, bodies, seconds, most, singles=0):
     """All ask while the first operator sends these bodies, and so many connections of its single reports; each is a test."""
     over = threading.Event()
     others = Others(server.port, over)
-    alone = [Asker(server.port, FIRST, reports_of(FIRST_SINGLE + it), over) for it in range(singles)]
+    alone = [Client(server.port, FIRST, reports_of(FIRST_SINGLE + it), over) for it in range(singles)]
     with Sending(server.port, bodies) as sending:
         lasting(seconds, over, others.all() + alone)
         taken, busy, faults = sending.end()
     print(f"{what}: {taken} bodies of many lines are taken, {busy} bodies and lines of them are told busy", flush=True)
-    for name, askers in others.of.items():
-        told(f"{what}: {name}", askers)
-        tried.one(f"{what}: {name}", accepted(askers, most))
+    for name, senders in others.of.items():
+        told(f"{what}: {name}", senders)
+        tried.one(f"{what}: {name}", accepted(senders, most))
     tried.one(f"{what}: bodies of many lines", faults[:2] or ([] if taken else ["none is taken"]))
     if singles:
         told(f"{what}: single reports of the same operator", alone)
@@ -295,9 +295,9 @@ def under_load(tried, what, server, bodies, seconds, most, singles=0):
     tried.one(f"{what}: the end", ends_well(server))
 
 
-def taken_or_busy(askers):
+def taken_or_busy(senders):
     """What is wrong with single reports: each is taken, or told busy once it has waited, and the connection closed behind that."""
-    others = [it for asker in askers for it in asker.others]
+    others = [it for client in senders for it in client.others]
     for waited, answer, closes in others:
         if isinstance(answer, str) or not is_told_busy(answer):
             yield f"a report is answered {answer}{', and closed' if closes else ''}"

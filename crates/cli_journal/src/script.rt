@@ -49,8 +49,8 @@ fn first_line(alloc: Global, text: &[u8]) -> Result<Vec<u8>, AllocError>
 }
 
 /// Why an entry is no request of a configuration: its operator isn't in it. The author always is.
-fn without_token(asker: EntryClient) -> ExitCause {
-    match asker {
+fn without_token(client: EntryClient) -> ExitCause {
+    match client {
         EntryClient::Author => ExitCause::NoMemory,
         EntryClient::Operator(id) => ExitCause::Folder(FolderFault::Unfitting(Unfit::Missing(id))),
     }
@@ -69,7 +69,7 @@ fn line_of(alloc: Global, config: &Config, entry: &JournalEntry<'_>) -> Result<V
             Ok(line) => Ok(line),
             Err(_) => Err(ExitCause::NoMemory),
         },
-        None => Err(without_token(entry.asker)),
+        None => Err(without_token(entry.client)),
     }
 }
 

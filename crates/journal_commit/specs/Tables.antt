@@ -18,12 +18,12 @@ texts_held = sum_by (λ share. share.held.texts)
 
 -- what this client has, nothing where it has no share
 abbrev pub share_of : List ClientShare → ℕ → ClientShare
-share_of each asker =
-    let nothing : Usage = record { texts = 0; bytes = 0 } in slice_index_or each asker (record { held = nothing; waiting = nothing })
+share_of each client =
+    let nothing : Usage = record { texts = 0; bytes = 0 } in slice_index_or each client (record { held = nothing; waiting = nothing })
 
 -- what each has once so much more is reserved for this client
 abbrev pub holding : List ClientShare → ℕ → Usage → List ClientShare
-holding each asker more = slice_set each asker (record { held = both (share_of each asker).held more; waiting = (share_of each asker).waiting })
+holding each client more = slice_set each client (record { held = both (share_of each client).held more; waiting = (share_of each client).waiting })
 
 -- what a client has once nothing of it waits
 abbrev pub untaken : ClientShare → ClientShare

@@ -47,7 +47,7 @@ impl From<NoRoom> for ReserveFault {
 /// A payload, and the reservation for its record. It has to be appended or released, and can't be dropped.
 pub struct Reservation {
     /// The client's number.
-    pub asker: usize,
+    pub client: usize,
     pub text: Vec<u8>,
     pub ghost taken: { is_taken text.items ≡ true },
 }
@@ -56,7 +56,7 @@ pub struct Reservation {
 /// dropped.
 pub struct Reservations {
     /// The client's number.
-    pub asker: usize,
+    pub client: usize,
     pub texts: Vec<Vec<u8>>,
 }
 
@@ -103,12 +103,12 @@ impl Reservation {
     /// # Errors
     ///
     /// No log accepts the payload.
-    fn new(asker: usize, text: Vec<u8>) -> Result<Reservation, ReserveFault>
+    fn new(client: usize, text: Vec<u8>) -> Result<Reservation, ReserveFault>
         ensures text { IfOk result (λ place. place.text ≡ text) }
-        ensures asker { IfOk result (λ place. place.asker ≡ asker) }
+        ensures client { IfOk result (λ place. place.client ≡ client) }
     {
         if fits(&text) && is_plain(&text) {
-            Ok(Reservation { asker, text })
+            Ok(Reservation { client, text })
         } else {
             Err(ReserveFault::Untaken)
         }
@@ -241,7 +241,7 @@ impl<K: LogName, L: Log, S: Space> CommitBacklog<K, L, S> {
         alloc: Global,
         nothing: &LogPosition<K, L>,
         space: S,
-        askers: usize,
+        clients: usize,
     ) -> Result<CommitBacklog<K, L, S>, AllocError>
         requires { S.aside space ≡ 0 }
         ensures { IfOk result (λ b. (b.queue.taken ≡ nothing.now) × (b.queue.appended ≡ nothing.now)) }
@@ -249,14 +249,14 @@ impl<K: LogName, L: Log, S: Space> CommitBacklog<K, L, S> {
         Ok(CommitBacklog {
             queue: CommitQueue::new(alloc, nothing)?,
             room: ReservedSpace::new(space),
-            shares: ClientShares::new(alloc, askers)?,
+            shares: ClientShares::new(alloc, clients)?,
             is_stopping: false,
         })
     }
 
     /// Whether so much more may be reserved for this client now.
-    pub(crate) fn has_share(&self, asker: usize, more: Usage) -> bool {
-        self.shares.has_share(asker, more)
+    pub(crate) fn has_share(&self, client: usize, more: Usage) -> bool {
+        self.shares.has_share(client, more)
     }
 
     /// Reserves so much more for this client.
@@ -264,17 +264,17 @@ impl<K: LogName, L: Log, S: Space> CommitBacklog<K, L, S> {
     /// # Errors
     ///
     /// Its share is used up, or the disk has no room. Nothing is reserved then.
-    fn reserve_usage(&mut self, asker: usize, more: Usage) -> Result<(), ReserveFault>
+    fn reserve_usage(&mut self, client: usize, more: Usage) -> Result<(), ReserveFault>
         requires { more.bytes ≤ STEP }
-        ensures held { OnOk result (self.new.shares.each.items ≡ holding self.old.shares.each.items asker more) }
+        ensures held { OnOk result (self.new.shares.each.items ≡ holding self.old.shares.each.items client more) }
         ensures unchanged { OnErr result ((self.new.shares ≡ self.old.shares) × (self.new.room.used ≡ self.old.room.used)) }
         ensures queue { self.new.queue ≡ self.old.queue }
     {
-        if !self.shares.has_share(asker, more) {
+        if !self.shares.has_share(client, more) {
             return Err(ReserveFault::Crowded);
         }
         self.room.take(more.bytes)?;
-        self.shares.add_reserved(asker, more);
+        self.shares.add_reserved(client, more);
         Ok(())
     }
 
@@ -285,24 +285,24 @@ impl<K: LogName, L: Log, S: Space> CommitBacklog<K, L, S> {
     /// See [`ReserveFault`]. Nothing is reserved then, and nothing has changed for others.
     pub(crate) fn make_reservation(
         &mut self,
-        asker: usize,
+        client: usize,
         text: Vec<u8>,
     ) -> Result<Reservation, ReserveFault>
         ensures place { IfOk result (λ place. place.text ≡ text) }
-        ensures asker { IfOk result (λ place. place.asker ≡ asker) }
-        ensures held { OnOk result (self.new.shares.each.items ≡ holding self.old.shares.each.items asker (record { texts = 1; bytes = vec_len text + RECORD_OVERHEAD })) }
+        ensures client { IfOk result (λ place. place.client ≡ client) }
+        ensures held { OnOk result (self.new.shares.each.items ≡ holding self.old.shares.each.items client (record { texts = 1; bytes = vec_len text + RECORD_OVERHEAD })) }
         ensures unchanged { OnErr result ((self.new.shares ≡ self.old.shares) × (self.new.room.used ≡ self.old.room.used)) }
         ensures queue { self.new.queue ≡ self.old.queue }
     {
         if self.is_stopping {
             return Err(ReserveFault::Stopping);
         }
-        let place = Reservation::new(asker, text)?;
+        let place = Reservation::new(client, text)?;
         let bytes = place.bytes();
-        match self.reserve_usage(asker, Usage { texts: 1, bytes }) {
+        match self.reserve_usage(client, Usage { texts: 1, bytes }) {
             Ok(()) => Ok(place),
             Err(fault) => {
-                let Reservation { asker: _, text: _ } = place;
+                let Reservation { client: _, text: _ } = place;
                 Err(fault)
             }
         }
@@ -313,8 +313,8 @@ impl<K: LogName, L: Log, S: Space> CommitBacklog<K, L, S> {
         ensures queue { self.new.queue ≡ self.old.queue }
     {
         let bytes = place.bytes();
-        let Reservation { asker, text: _ } = place;
-        if self.shares.release(asker, bytes) {
+        let Reservation { client, text: _ } = place;
+        if self.shares.release(client, bytes) {
             self.room.give_back(bytes);
         }
     }
@@ -330,8 +330,8 @@ impl<K: LogName, L: Log, S: Space> CommitBacklog<K, L, S> {
         ensures taken { self.new.queue.taken ≡ self.old.queue.taken }
     {
         let bytes = place.bytes();
-        let Reservation { asker, text } = place;
-        if !self.shares.append(asker, bytes) {
+        let Reservation { client, text } = place;
+        if !self.shares.append(client, bytes) {
             return None;
         }
         self.queue.push(ledger, text)
@@ -344,11 +344,11 @@ impl<K: LogName, L: Log, S: Space> CommitBacklog<K, L, S> {
     /// See [`ReserveFault`]. Nothing is reserved then, and nothing has changed for others.
     pub(crate) fn make_reservations(
         &mut self,
-        asker: usize,
+        client: usize,
         texts: Vec<Vec<u8>>,
     ) -> Result<Reservations, ReserveFault>
         ensures places { IfOk result (λ places. places.texts ≡ texts) }
-        ensures asker { IfOk result (λ places. places.asker ≡ asker) }
+        ensures client { IfOk result (λ places. places.client ≡ client) }
         ensures unchanged { OnErr result ((self.new.shares ≡ self.old.shares) × (self.new.room.used ≡ self.old.room.used)) }
         ensures queue { self.new.queue ≡ self.old.queue }
     {
@@ -360,8 +360,8 @@ impl<K: LogName, L: Log, S: Space> CommitBacklog<K, L, S> {
             texts: texts.len(),
             bytes,
         };
-        self.reserve_usage(asker, more)?;
-        Ok(Reservations { asker, texts })
+        self.reserve_usage(client, more)?;
+        Ok(Reservations { client, texts })
     }
 
     /// Appends a payload that has a reservation, where it is to be persisted, and releases the reservation otherwise.
@@ -369,7 +369,7 @@ impl<K: LogName, L: Log, S: Space> CommitBacklog<K, L, S> {
     fn append_or_release(
         &mut self,
         ledger: &CommitLedger<K, L>,
-        asker: usize,
+        client: usize,
         text: Vec<u8>,
         is_kept: bool,
     ) -> bool
@@ -378,7 +378,7 @@ impl<K: LogName, L: Log, S: Space> CommitBacklog<K, L, S> {
         ensures taken { self.new.queue.taken ≡ self.old.queue.taken }
     {
         // It has a reservation, so a log accepts it.
-        let Ok(place) = Reservation::new(asker, text) else {
+        let Ok(place) = Reservation::new(client, text) else {
             return false;
         };
         if is_kept {
@@ -402,13 +402,13 @@ impl<K: LogName, L: Log, S: Space> CommitBacklog<K, L, S> {
         ensures stamp { IfSome result (λ stamp. self.new.queue.appended ≡ stamp) }
         ensures taken { self.new.queue.taken ≡ self.old.queue.taken }
     {
-        let Reservations { asker, texts } = places;
+        let Reservations { client, texts } = places;
         let mut is_settled = true;
         let mut rest = kept;
         for text in texts {
             let (is_kept, others) = first_flag(rest);
             rest = others;
-            let settles = self.append_or_release(ledger, asker, text, is_kept);
+            let settles = self.append_or_release(ledger, client, text, is_kept);
             is_settled = is_settled & settles;
         }
         if is_settled {

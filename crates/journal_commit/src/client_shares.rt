@@ -78,7 +78,7 @@ impl ClientShares {
     /// # Errors
     ///
     /// Out of memory.
-    pub(crate) fn new(alloc: Global, askers: usize) -> Result<ClientShares, AllocError>
+    pub(crate) fn new(alloc: Global, clients: usize) -> Result<ClientShares, AllocError>
         ensures { IfOk result (λ shares. bytes_in shares.each.items ≡ 0) }
     {
         let nothing = ClientShare {
@@ -86,21 +86,21 @@ impl ClientShares {
             waiting: NO_USAGE,
         };
         Ok(ClientShares {
-            each: vec![in alloc; nothing; askers.min(MOST_CLIENTS)]?,
+            each: vec![in alloc; nothing; clients.min(MOST_CLIENTS)]?,
         })
     }
 
     /// Whether so much more may be reserved for this client; not for one without a share.
-    pub(crate) fn has_share(&self, asker: usize, more: Usage) -> bool
-        ensures known { result ≡ true → asker < length self.now.each.items }
-        ensures shared { result ≡ true → IsShared (map usage_of (holding self.now.each.items asker more)) }
+    pub(crate) fn has_share(&self, client: usize, more: Usage) -> bool
+        ensures known { result ≡ true → client < length self.now.each.items }
+        ensures shared { result ≡ true → IsShared (map usage_of (holding self.now.each.items client more)) }
     {
-        if asker >= self.each.len() {
+        if client >= self.each.len() {
             return false;
         }
-        let own = self.each[asker].usage();
-        let (before, before_without) = count_usage(&self.each[..asker]);
-        let (after, after_without) = count_usage(&self.each[asker + 1..]);
+        let own = self.each[client].usage();
+        let (before, before_without) = count_usage(&self.each[..client]);
+        let (after, after_without) = count_usage(&self.each[client + 1..]);
         let all = Usage {
             texts: before.texts + own.texts + after.texts,
             bytes: before.bytes + own.bytes + after.bytes,
@@ -109,21 +109,21 @@ impl ClientShares {
     }
 
     /// Reserves so much more for a client.
-    pub(crate) fn add_reserved(&mut self, asker: usize, more: Usage)
-        requires known { asker < length self.old.each.items }
-        requires shared { IsShared (map usage_of (holding self.old.each.items asker more)) }
-        ensures { self.new.each.items ≡ holding self.old.each.items asker more }
+    pub(crate) fn add_reserved(&mut self, client: usize, more: Usage)
+        requires known { client < length self.old.each.items }
+        requires shared { IsShared (map usage_of (holding self.old.each.items client more)) }
+        ensures { self.new.each.items ≡ holding self.old.each.items client more }
     {
-        let share = &mut self.each[asker];
+        let share = &mut self.each[client];
         share.held.texts += more.texts;
         share.held.bytes += more.bytes;
     }
 
     /// Whether this client has a reservation for one payload of so many bytes.
-    fn has_reservation(&self, asker: usize, bytes: u64) -> bool
-        ensures { result ≡ true → (asker < length self.now.each.items) × (0 < (share_of self.now.each.items asker).held.texts) × (bytes ≤ (share_of self.now.each.items asker).held.bytes) }
+    fn has_reservation(&self, client: usize, bytes: u64) -> bool
+        ensures { result ≡ true → (client < length self.now.each.items) × (0 < (share_of self.now.each.items client).held.texts) × (bytes ≤ (share_of self.now.each.items client).held.bytes) }
     {
-        match self.each.get(asker) {
+        match self.each.get(client) {
             Some(share) => share.held.texts > 0 && share.held.bytes >= bytes,
             None => false,
         }
@@ -131,13 +131,13 @@ impl ClientShares {
 
     /// Releases the reservation for one payload of so many bytes, and returns whether it did. It doesn't where there
     /// was none.
-    pub(crate) fn release(&mut self, asker: usize, bytes: u64) -> bool
+    pub(crate) fn release(&mut self, client: usize, bytes: u64) -> bool
         ensures { MatchBool result (bytes_in self.new.each.items + bytes ≡ bytes_in self.old.each.items) (self.new ≡ self.old) }
     {
-        if !self.has_reservation(asker, bytes) {
+        if !self.has_reservation(client, bytes) {
             return false;
         }
-        let share = &mut self.each[asker];
+        let share = &mut self.each[client];
         share.held.texts -= 1;
         share.held.bytes -= bytes;
         true
@@ -145,13 +145,13 @@ impl ClientShares {
 
     /// Turns the reservation for one payload of so many bytes into one that waits, and returns whether it did. It
     /// doesn't where there was none.
-    pub(crate) fn append(&mut self, asker: usize, bytes: u64) -> bool
+    pub(crate) fn append(&mut self, client: usize, bytes: u64) -> bool
         ensures { bytes_in self.new.each.items ≡ bytes_in self.old.each.items }
     {
-        if !self.has_reservation(asker, bytes) {
+        if !self.has_reservation(client, bytes) {
             return false;
         }
-        let share = &mut self.each[asker];
+        let share = &mut self.each[client];
         share.held.texts -= 1;
         share.held.bytes -= bytes;
         share.waiting.texts += 1;
@@ -167,12 +167,12 @@ impl ClientShares {
     }
 
     /// Clears what waits of this client, and returns how many bytes that was.
-    fn take_waiting_of(&mut self, asker: usize) -> u64
-        requires { asker < length self.old.each.items }
+    fn take_waiting_of(&mut self, client: usize) -> u64
+        requires { client < length self.old.each.items }
         ensures bytes { result + bytes_in self.new.each.items ≡ bytes_in self.old.each.items }
-        ensures taken { self.new.each.items ≡ slice_set self.old.each.items asker (untaken (share_of self.old.each.items asker)) }
+        ensures taken { self.new.each.items ≡ slice_set self.old.each.items client (untaken (share_of self.old.each.items client)) }
     {
-        let share = &mut self.each[asker];
+        let share = &mut self.each[client];
         let bytes = share.waiting.bytes;
         share.waiting = NO_USAGE;
         bytes
@@ -184,8 +184,8 @@ impl ClientShares {
         ensures taken { self.new.each.items ≡ map untaken self.old.each.items }
     {
         let mut bytes = 0;
-        for asker in 0..self.each.len() {
-            bytes += self.take_waiting_of(asker);
+        for client in 0..self.each.len() {
+            bytes += self.take_waiting_of(client);
         }
         bytes
     }

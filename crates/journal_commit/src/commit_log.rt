@@ -47,7 +47,7 @@ pub struct CommitLog<K: LogName, L: Log, S: Space> {
 }
 
 /// Begins to serve over a log, after what it has: returns the commit log, the flusher, and the log position at which
-/// nothing is appended. A client is a number below `askers`, and at most [`MOST_CLIENTS`](crate::MOST_CLIENTS) of these
+/// nothing is appended. A client is a number below `clients`, and at most [`MOST_CLIENTS`](crate::MOST_CLIENTS) of these
 /// have a share of what may wait.
 ///
 /// # Errors
@@ -58,7 +58,7 @@ pub fn open<K: LogName, L: Log, S: Space>(
     opened: UnnamedHistory<L>,
     log: L,
     space: S,
-    askers: usize,
+    clients: usize,
 ) -> Result<(CommitLog<K, L, S>, Flusher<K, L>, LogPosition<K, L>), AllocError>
     requires book { opened.seen.book ≡ K.book }
     requires listed { (first : List (List ℕ)) × L.may_be log first }
@@ -70,7 +70,7 @@ pub fn open<K: LogName, L: Log, S: Space>(
     let flusher = Flusher::new(alloc, log, position, &nothing)?;
     let keeper = CommitLog {
         ledger,
-        backlog: Mutex::new(CommitBacklog::new(alloc, &nothing, space, askers)?),
+        backlog: Mutex::new(CommitBacklog::new(alloc, &nothing, space, clients)?),
         more: Condvar::new(),
         synced: Condvar::new(),
         told: Arc::new(alloc, Notify::new(alloc)?)?,
@@ -89,7 +89,7 @@ impl<K: LogName, L: Log, S: Space> CommitLog<K, L, S> {
     pub fn reserve<R: Wait>(
         &self,
         rt: &R,
-        asker: usize,
+        client: usize,
         text: Vec<u8>,
     ) -> Result<Reservation, ReserveFault>
         ensures { IfOk result (λ place. place.text ≡ text) }
@@ -97,7 +97,7 @@ impl<K: LogName, L: Log, S: Space> CommitLog<K, L, S> {
         if self.has_failed.load(Ordering::SeqCst) {
             return Err(ReserveFault::Failed);
         }
-        self.backlog.lock(rt).make_reservation(asker, text)
+        self.backlog.lock(rt).make_reservation(client, text)
     }
 
     /// Releases the reservation of a request that isn't persisted.
@@ -141,7 +141,7 @@ impl<K: LogName, L: Log, S: Space> CommitLog<K, L, S> {
     pub fn reserve_all<R: Wait>(
         &self,
         rt: &R,
-        asker: usize,
+        client: usize,
         texts: Vec<Vec<u8>>,
     ) -> Result<Reservations, ReserveFault>
         ensures { IfOk result (λ places. places.texts ≡ texts) }
@@ -149,12 +149,12 @@ impl<K: LogName, L: Log, S: Space> CommitLog<K, L, S> {
         if self.has_failed.load(Ordering::SeqCst) {
             return Err(ReserveFault::Failed);
         }
-        self.backlog.lock(rt).make_reservations(asker, texts)
+        self.backlog.lock(rt).make_reservations(client, texts)
     }
 
     /// Whether so much more may be reserved for this client now. It reserves nothing.
-    pub fn has_share<R: Wait>(&self, rt: &R, asker: usize, more: Usage) -> bool {
-        self.backlog.lock(rt).has_share(asker, more)
+    pub fn has_share<R: Wait>(&self, rt: &R, client: usize, more: Usage) -> bool {
+        self.backlog.lock(rt).has_share(client, more)
     }
 
     /// Releases all of these reservations.

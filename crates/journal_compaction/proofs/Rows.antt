@@ -172,7 +172,7 @@ fits_asked configuration e None = tt
 fits_asked configuration e (Some token) = fits_call (call_of configuration (with_token e token)) e.body
 
 fits_entry : (configuration : Configuration) (e : Entry) → Fits (kind_of configuration e) (read_report e.body)
-fits_entry configuration e = fits_asked configuration e (token_of configuration (actor_by configuration e.asker))
+fits_entry configuration e = fits_asked configuration e (token_of configuration (actor_by configuration e.client))
 
 module _ (configuration : Configuration) (device : Device) where
   -- a device's reports after some entries, the first one first

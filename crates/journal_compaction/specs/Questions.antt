@@ -9,15 +9,15 @@ use Rattle.journal_entry.specs.declared.entry.EntryClient.TheVariants.{Author, O
 
 -- a GET request for this target
 abbrev pub asks : ℕ → EntryClient → List ℕ → Entry
-asks at asker target = record { asker = asker; at = at; verb = Get; target = target; body = [] }
+asks at client target = record { client = client; at = at; verb = Get; target = target; body = [] }
 
 abbrev pub is_put_by : EntryClient → Verb → Bool
 is_put_by Author Put = true
-is_put_by asker verb = false
+is_put_by client verb = false
 
 -- the author put a draft by this entry
 abbrev pub is_draft : Entry → Bool
-is_draft e = is_put_by e.asker e.verb
+is_draft e = is_put_by e.client e.verb
 
 -- the question for an operator's vehicles
 abbrev pub fleet_of : ℕ → Operator → Entry

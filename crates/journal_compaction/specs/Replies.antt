@@ -29,7 +29,7 @@ pub record IsTold (configuration : Configuration) (question : Entry) (reply : Re
   pub request : Request
   pub asked : request_by configuration question ≡ Some request
   pub has_memory : reply.status ≢ 503
-  pub tells : Tells (actor_by configuration question.asker) request reply s next
+  pub tells : Tells (actor_by configuration question.client) request reply s next
 
 -- questions are answered, one after another
 abbrev pub AreTold : Configuration → List Entry → List Reply → Server → Server → Type 0

@@ -33,7 +33,7 @@ fn copy_entry<'a>(entry: &JournalEntry<'a>) -> JournalEntry<'a>
     ensures { entry_of result ≡ entry_of entry.now }
 {
     JournalEntry {
-        asker: entry.asker,
+        client: entry.client,
         at: entry.at,
         verb: entry.verb,
         target: entry.target,

@@ -10,11 +10,11 @@ use mds_text::Moment;
 use std::alloc::{AllocError, Global};
 
 /// A request of this client, for this target.
-fn question_for<'a>(at: Moment, asker: EntryClient, target: &'a [u8]) -> JournalEntry<'a>
-    ensures { entry_of result ≡ asks at asker target.now }
+fn question_for<'a>(at: Moment, client: EntryClient, target: &'a [u8]) -> JournalEntry<'a>
+    ensures { entry_of result ≡ asks at client target.now }
 {
     JournalEntry {
-        asker,
+        client,
         at,
         verb: Verb::Get,
         target,
@@ -26,7 +26,7 @@ fn question_for<'a>(at: Moment, asker: EntryClient, target: &'a [u8]) -> Journal
 fn is_draft(entry: &JournalEntry<'_>) -> bool
     ensures { result ≡ is_draft (entry_of entry.now) }
 {
-    match (entry.asker, entry.verb) {
+    match (entry.client, entry.verb) {
         (EntryClient::Author, Verb::Put) => true,
         _ => false,
     }
@@ -36,12 +36,12 @@ fn is_draft(entry: &JournalEntry<'_>) -> bool
 fn add<'a>(
     list: &mut Vec<JournalEntry<'a>>,
     at: Moment,
-    asker: EntryClient,
+    client: EntryClient,
     target: &'a [u8],
 ) -> Result<(), AllocError>
-    ensures { OnOk result (map entry_of list.new.items ≡ map entry_of list.old.items ++ asks at asker target.now ∷ []) }
+    ensures { OnOk result (map entry_of list.new.items ≡ map entry_of list.old.items ++ asks at client target.now ∷ []) }
 {
-    match list.push(question_for(at, asker, target)) {
+    match list.push(question_for(at, client, target)) {
         Ok(()) => Ok(()),
         Err(_) => Err(AllocError),
     }

@@ -96,7 +96,7 @@ fn answer_question<K: OpeningName, R: Wait>(
     let Some(request) = request_by(config, question) else {
         return Err(CompactFault::Differs);
     };
-    let actor = actor_by(config, question.asker);
+    let actor = actor_by(config, question.client);
     let Some(answer) = answer_by(rt, room, desks, actor, &request) else {
         return Err(CompactFault::Differs);
     };

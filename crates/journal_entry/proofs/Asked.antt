@@ -10,7 +10,7 @@ use Rattle.mds_request.specs.Request.{Request}
 use Rattle.mds_request.specs.declared.config.Actor.{Actor}
 use Rattle.mds_request.specs.declared.config.Actor.TheVariants.{Author, Operator as OperatorAt, Nobody}
 use Rattle.journal_entry.specs.Entries.{Entry}
-use Rattle.journal_entry.specs.Requests.{has_id, actor_by, token_of, with_token, request_by, asker_at, asked_by, entry_by, ReadsTheRequest}
+use Rattle.journal_entry.specs.Requests.{has_id, actor_by, token_of, with_token, request_by, client_at, asked_by, entry_by, ReadsTheRequest}
 use Rattle.journal_entry.specs.declared.entry.EntryClient.{EntryClient}
 use Rattle.journal_entry.specs.declared.entry.EntryClient.TheVariants.{Author as TheAuthor, Operator as OperatorBy}
 
@@ -64,36 +64,36 @@ has_its_token operators token place o found is =
     let there = (position-Some (has_token token) operators place o found).1 in
     (bytes_eq-Decides o.token token).0 (ap (λ (y : Operator). bytes_eq y.token token) (sym (get_is operators place o is)) ∙ there)
 
-at_place : (c : Configuration) (token : List ℕ) (place : ℕ) (asker : EntryClient) (here : Option Operator) → repeats (ids c.operators) ≡ false
+at_place : (c : Configuration) (token : List ℕ) (place : ℕ) (client : EntryClient) (here : Option Operator) → repeats (ids c.operators) ≡ false
     → position (has_token token) c.operators ≡ Some place → slice_get c.operators place ≡ here
-    → option_map (λ (o : Operator). OperatorBy o.id) here ≡ Some asker → token_of c (actor_by c asker) ≡ Some token
-at_place c token place asker None alone found is e = absurd (is_some asker e)
-at_place c token place asker (Some o) alone found is e =
-    let who : OperatorBy o.id ≡ asker = the_same (OperatorBy o.id) asker e in
+    → option_map (λ (o : Operator). OperatorBy o.id) here ≡ Some client → token_of c (actor_by c client) ≡ Some token
+at_place c token place client None alone found is e = absurd (is_some client e)
+at_place c token place client (Some o) alone found is e =
+    let who : OperatorBy o.id ≡ client = the_same (OperatorBy o.id) client e in
     let back : actor_by c (OperatorBy o.id) ≡ OperatorAt place = ap operator_at (placed c.operators place o alone is) in
     ap (λ (a : EntryClient). token_of c (actor_by c a)) (sym who) ∙ ap (token_of c) back ∙ ap (option_map (λ (x : Operator). x.token)) is
     ∙ ap (λ (t : List ℕ). Some t) (has_its_token c.operators token place o found is)
 
-by_operator : (c : Configuration) (token : List ℕ) (asker : EntryClient) (place : Option ℕ) → repeats (ids c.operators) ≡ false
-    → position (has_token token) c.operators ≡ place → asker_at c (operator_at place) ≡ Some asker → token_of c (actor_by c asker) ≡ Some token
-by_operator c token asker None alone found e = absurd (is_some asker e)
-by_operator c token asker (Some place) alone found e = at_place c token place asker (slice_get c.operators place) alone found refl e
+by_operator : (c : Configuration) (token : List ℕ) (client : EntryClient) (place : Option ℕ) → repeats (ids c.operators) ≡ false
+    → position (has_token token) c.operators ≡ place → client_at c (operator_at place) ≡ Some client → token_of c (actor_by c client) ≡ Some token
+by_operator c token client None alone found e = absurd (is_some client e)
+by_operator c token client (Some place) alone found e = at_place c token place client (slice_get c.operators place) alone found refl e
 
-by_token : (c : Configuration) (token : List ℕ) (asker : EntryClient) (is_author : Bool) → repeats (ids c.operators) ≡ false
+by_token : (c : Configuration) (token : List ℕ) (client : EntryClient) (is_author : Bool) → repeats (ids c.operators) ≡ false
     → bytes_eq c.author token ≡ is_author
-    → asker_at c (cond is_author Author (operator_at (position (has_token token) c.operators))) ≡ Some asker
-    → token_of c (actor_by c asker) ≡ Some token
-by_token c token asker true alone is e =
-    let who : TheAuthor ≡ asker = the_same TheAuthor asker e in
+    → client_at c (cond is_author Author (operator_at (position (has_token token) c.operators))) ≡ Some client
+    → token_of c (actor_by c client) ≡ Some token
+by_token c token client true alone is e =
+    let who : TheAuthor ≡ client = the_same TheAuthor client e in
     ap (λ (a : EntryClient). token_of c (actor_by c a)) (sym who) ∙ ap (λ (t : List ℕ). Some t) ((bytes_eq-Decides c.author token).0 is)
-by_token c token asker false alone is e = by_operator c token asker (position (has_token token) c.operators) alone refl e
+by_token c token client false alone is e = by_operator c token client (position (has_token token) c.operators) alone refl e
 
-of_asker : (c : Configuration) (r : Request) (e : Entry) (asker : Option EntryClient) → repeats (ids c.operators) ≡ false
-    → asker_at c (actor_of c r.token) ≡ asker → option_map (asked_by r) asker ≡ Some e → request_by c e ≡ Some r
-of_asker c r e None alone is by = absurd (is_some e by)
-of_asker c r e (Some asker) alone is by =
-    let who : asked_by r asker ≡ e = the_same (asked_by r asker) e by in
-    ap (request_by c) (sym who) ∙ ap (option_map (with_token (asked_by r asker))) (by_token c r.token asker (bytes_eq c.author r.token) alone refl is)
+of_client : (c : Configuration) (r : Request) (e : Entry) (client : Option EntryClient) → repeats (ids c.operators) ≡ false
+    → client_at c (actor_of c r.token) ≡ client → option_map (asked_by r) client ≡ Some e → request_by c e ≡ Some r
+of_client c r e None alone is by = absurd (is_some e by)
+of_client c r e (Some client) alone is by =
+    let who : asked_by r client ≡ e = the_same (asked_by r client) e by in
+    ap (request_by c) (sym who) ∙ ap (option_map (with_token (asked_by r client))) (by_token c r.token client (bytes_eq c.author r.token) alone refl is)
 
 pub reads_the_request : ReadsTheRequest
-reads_the_request c r e alone by = of_asker c r e (asker_at c (actor_of c r.token)) alone refl by
+reads_the_request c r e alone by = of_client c r e (client_at c (actor_of c r.token)) alone refl by

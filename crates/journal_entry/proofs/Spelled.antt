@@ -12,7 +12,7 @@ use Rattle.journal_entry.specs.declared.entry.EntryClient.TheVariants.{Author, O
 use Rattle.journal_entry.specs.declared.entry.TheConstants.{ENTRY, MOST_TARGET}
 use Rattle.mds_request.specs.declared.request.Verb.{Verb}
 use Rattle.mds_request.specs.declared.request.Verb.TheVariants.{Get, Put, Post, Delete, Other}
-use Rattle.journal_entry.specs.Entries.{Entry, IsEntry, IsShort, IsId, IsAsker, moment_text, size_text, id_text, verb_code, asker_text, fields_text, entry_text}
+use Rattle.journal_entry.specs.Entries.{Entry, IsEntry, IsShort, IsId, IsClient, moment_text, size_text, id_text, verb_code, client_text, fields_text, entry_text}
 
 pub same_front : (a b r s : List ℕ) → length a ≡ length b → a ++ r ≡ b ++ s → (a ≡ b) × (r ≡ s)
 same_front a b r s long e =
@@ -63,11 +63,11 @@ same_id a b r s p q e =
     let f = same_front (id_text a) (id_text b) r s (id_length a ∙ sym (id_length b)) e in
     (same_spelling a b p q f.0, f.1)
 
-pub same_asker : (a b : EntryClient) (r s : List ℕ) → IsAsker a → IsAsker b → asker_text a ++ r ≡ asker_text b ++ s → (a ≡ b) × (r ≡ s)
-same_asker Author Author r s p q e = (refl, (same_head 0 0 r s e).1)
-same_asker Author (Operator b) r s p q e = absurd (omega (arith, (same_head 0 1 r (id_text b ++ s) e).0))
-same_asker (Operator a) Author r s p q e = absurd (omega (arith, (same_head 1 0 (id_text a ++ r) s e).0))
-same_asker (Operator a) (Operator b) r s p q e =
+pub same_client : (a b : EntryClient) (r s : List ℕ) → IsClient a → IsClient b → client_text a ++ r ≡ client_text b ++ s → (a ≡ b) × (r ≡ s)
+same_client Author Author r s p q e = (refl, (same_head 0 0 r s e).1)
+same_client Author (Operator b) r s p q e = absurd (omega (arith, (same_head 0 1 r (id_text b ++ s) e).0))
+same_client (Operator a) Author r s p q e = absurd (omega (arith, (same_head 1 0 (id_text a ++ r) s e).0))
+same_client (Operator a) (Operator b) r s p q e =
     let f = same_id a b r s p q (same_head 1 1 (id_text a ++ r) (id_text b ++ s) e).1 in
     (ap (λ (x : List ℕ). Operator x) f.0, f.1)
 
@@ -99,18 +99,18 @@ same_target a b r s small low e =
 pub record Same (a b : Entry) : Type 0 where
   pub at : a.at ≡ b.at
   pub verb : a.verb ≡ b.verb
-  pub asker : a.asker ≡ b.asker
+  pub client : a.client ≡ b.client
   pub target : a.target ≡ b.target
   pub body : a.body ≡ b.body
 
-pub same_fields : (a b : Entry) → IsAsker a.asker → a.at ≤ last_moment → length a.target ≤ MOST_TARGET → IsEntry b → fields_text a ≡ fields_text b → Same a b
+pub same_fields : (a b : Entry) → IsClient a.client → a.at ≤ last_moment → length a.target ≤ MOST_TARGET → IsEntry b → fields_text a ≡ fields_text b → Same a b
 same_fields a b is small within q e =
-    let at = same_moment a.at b.at (verb_code a.verb ∷ (asker_text a.asker ++ (size_text (length a.target) ++ (a.target ++ a.body)))) (verb_code b.verb ∷ (asker_text b.asker ++ (size_text (length b.target) ++ (b.target ++ b.body)))) small q.at e in
-    let verb = same_head (verb_code a.verb) (verb_code b.verb) (asker_text a.asker ++ (size_text (length a.target) ++ (a.target ++ a.body))) (asker_text b.asker ++ (size_text (length b.target) ++ (b.target ++ b.body))) at.1 in
-    let asker = same_asker a.asker b.asker (size_text (length a.target) ++ (a.target ++ a.body)) (size_text (length b.target) ++ (b.target ++ b.body)) is q.asker verb.1 in
-    let target = same_target a.target b.target a.body b.body within q.short.target asker.1 in
-    record { at = at.0; verb = same_verb a.verb b.verb verb.0; asker = asker.0; target = target.0; body = target.1 }
+    let at = same_moment a.at b.at (verb_code a.verb ∷ (client_text a.client ++ (size_text (length a.target) ++ (a.target ++ a.body)))) (verb_code b.verb ∷ (client_text b.client ++ (size_text (length b.target) ++ (b.target ++ b.body)))) small q.at e in
+    let verb = same_head (verb_code a.verb) (verb_code b.verb) (client_text a.client ++ (size_text (length a.target) ++ (a.target ++ a.body))) (client_text b.client ++ (size_text (length b.target) ++ (b.target ++ b.body))) at.1 in
+    let client = same_client a.client b.client (size_text (length a.target) ++ (a.target ++ a.body)) (size_text (length b.target) ++ (b.target ++ b.body)) is q.client verb.1 in
+    let target = same_target a.target b.target a.body b.body within q.short.target client.1 in
+    record { at = at.0; verb = same_verb a.verb b.verb verb.0; client = client.0; target = target.0; body = target.1 }
 
 pub same_entry : (a b : Entry) → Same a b → a ≡ b
 same_entry a b s =
-    rw s.at (rw s.verb (rw s.asker (rw s.target (rw s.body refl))))
+    rw s.at (rw s.verb (rw s.client (rw s.target (rw s.body refl))))

@@ -13,7 +13,7 @@ use Rattle.mds_request.specs.declared.request.Verb.TheVariants.{Get, Put, Post, 
 use Rattle.mds_request.specs.declared.call.TheConstants.{MOST_BODY}
 
 pub record Entry : Type 0 where
-  pub asker : EntryClient
+  pub client : EntryClient
   -- the moment at which the request was answered
   pub at : ℕ
   pub verb : Verb
@@ -22,7 +22,7 @@ pub record Entry : Type 0 where
 
 -- the entry of a `JournalEntry` in the code
 abbrev pub entry_of : Lent → Entry
-entry_of e = record { asker = e.asker; at = e.at; verb = e.verb; target = e.target.now; body = e.body.now }
+entry_of e = record { client = e.client; at = e.at; verb = e.verb; target = e.target.now; body = e.body.now }
 
 -- a moment's milliseconds in eight bytes, and a length in four, both big-endian
 unfoldable pub moment_text : ℕ → List ℕ
@@ -43,14 +43,14 @@ verb_code Delete = 4
 verb_code Other = 5
 
 -- the client: a byte, and an operator's identifier
-abbrev pub asker_text : EntryClient → List ℕ
-asker_text Author = BY_AUTHOR ∷ []
-asker_text (Operator id) = BY_OPERATOR ∷ id_text id
+abbrev pub client_text : EntryClient → List ℕ
+client_text Author = BY_AUTHOR ∷ []
+client_text (Operator id) = BY_OPERATOR ∷ id_text id
 
 -- the moment, the method, the client, the target after its length, and the body
 abbrev pub fields_text : Entry → List ℕ
 fields_text e =
-    moment_text e.at ++ (verb_code e.verb ∷ (asker_text e.asker ++ (size_text (length e.target) ++ (e.target ++ e.body))))
+    moment_text e.at ++ (verb_code e.verb ∷ (client_text e.client ++ (size_text (length e.target) ++ (e.target ++ e.body))))
 
 -- an entry's payload: the layout's version, and the fields
 abbrev pub entry_text : Entry → List ℕ
@@ -60,9 +60,9 @@ entry_text e = ENTRY ∷ fields_text e
 abbrev pub IsId : List ℕ → Type 0
 IsId id = parsed (hyphenated_text lower id) ≡ Some id
 
-abbrev pub IsAsker : EntryClient → Type 0
-IsAsker Author = Unit {0}
-IsAsker (Operator id) = IsId id
+abbrev pub IsClient : EntryClient → Type 0
+IsClient Author = Unit {0}
+IsClient (Operator id) = IsId id
 
 -- the target and the body are within their limits
 pub record IsShort (e : Entry) : Type 0 where
@@ -70,6 +70,6 @@ pub record IsShort (e : Entry) : Type 0 where
   pub body : length e.body ≤ MOST_BODY
 
 pub record IsEntry (e : Entry) : Type 0 where
-  pub asker : IsAsker e.asker
+  pub client : IsClient e.client
   pub at : e.at ≤ last_moment
   pub short : IsShort e

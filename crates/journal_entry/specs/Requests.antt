@@ -27,19 +27,19 @@ with_token e token = record { at = e.at; token = token; verb = e.verb; target = 
 
 -- the request of an entry, with its client's access token, where the configuration has one
 abbrev pub request_by : Configuration → Entry → Option Request
-request_by configuration e = option_map (with_token e) (token_of configuration (actor_by configuration e.asker))
+request_by configuration e = option_map (with_token e) (token_of configuration (actor_by configuration e.client))
 
-abbrev pub asker_at : Configuration → Actor → Option EntryClient
-asker_at configuration Author = Some TheAuthor
-asker_at configuration (OperatorAt place) = option_map (λ o. OperatorBy o.id) (slice_get configuration.operators place)
-asker_at configuration Nobody = None
+abbrev pub client_at : Configuration → Actor → Option EntryClient
+client_at configuration Author = Some TheAuthor
+client_at configuration (OperatorAt place) = option_map (λ o. OperatorBy o.id) (slice_get configuration.operators place)
+client_at configuration Nobody = None
 
 abbrev pub asked_by : Request → EntryClient → Entry
-asked_by r asker = record { asker = asker; at = r.at; verb = r.verb; target = r.target; body = r.body }
+asked_by r client = record { client = client; at = r.at; verb = r.verb; target = r.target; body = r.body }
 
 -- the entry of a request, where its access token is a client's
 abbrev pub entry_by : Configuration → Request → Option Entry
-entry_by configuration r = option_map (asked_by r) (asker_at configuration (actor_of configuration r.token))
+entry_by configuration r = option_map (asked_by r) (client_at configuration (actor_of configuration r.token))
 
 -- Where no two operators have the same identifier, the entry of a request reads as that request.
 abbrev pub ReadsTheRequest : Type 0

@@ -2,7 +2,7 @@
 ghost use Rattle.std.specs.Prelude.{◌≡◌, ◌≢◌, ◌↔◌, ◌≤◌, ◌<◌, ◌^◌, ℕ, List, ◌∷◌, ◌++◌, length, MatchOption, IfOk, IfErr, IsErrOf};
 ghost use Rattle.std.specs.Int.{w64, w32, from_be_bytes, to_be_bytes};
 ghost use Rattle.mds_text.specs.Fields.{last_moment};
-ghost use Rattle.journal_entry.specs.Entries.{Entry as Accepted, IsEntry, IsId, IsAsker, IsShort, entry_of, entry_text, fields_text, moment_text, size_text, id_text, asker_text, verb_code};
+ghost use Rattle.journal_entry.specs.Entries.{Entry as Accepted, IsEntry, IsId, IsClient, IsShort, entry_of, entry_text, fields_text, moment_text, size_text, id_text, client_text, verb_code};
 ghost use Rattle.journal_entry.specs.declared.entry.EntryClient.{EntryClient as ByWhom};
 ghost use Rattle.journal_entry.specs.declared.entry.TheConstants.{ENTRY, MOST_TARGET};
 ghost use Rattle.mds_request.specs.declared.request.Verb.{Verb as Method};
@@ -144,9 +144,9 @@ pub(crate) fn id_in(alloc: Global, bytes: &[u8]) -> Result<(Id, &[u8]), DecodeFa
 
 /// Decodes the client at the start, and returns the bytes after it.
 fn client_in(alloc: Global, bytes: &[u8]) -> Result<(EntryClient, &[u8]), DecodeFault>
-    ensures read { IfOk result (λ r. (bytes.now ≡ asker_text r.0 ++ r.1.now) × IsAsker r.0) }
+    ensures read { IfOk result (λ r. (bytes.now ≡ client_text r.0 ++ r.1.now) × IsClient r.0) }
     ensures malformed { IfErr result (λ flaw. flaw ≡ DecodeFault.Malformed
-        → (asker : ByWhom) (rest : List ℕ) → IsAsker asker → bytes.now ≡ asker_text asker ++ rest → ⊥) }
+        → (client : ByWhom) (rest : List ℕ) → IsClient client → bytes.now ≡ client_text client ++ rest → ⊥) }
 {
     match bytes.split_first() {
         Some((&BY_AUTHOR, rest)) => Ok((EntryClient::Author, rest)),
@@ -200,7 +200,7 @@ fn entry_in(alloc: Global, bytes: &[u8]) -> Result<JournalEntry<'_>, DecodeFault
     let Some((verb, fields)) = verb_in(behind) else {
         return Err(DecodeFault::Malformed);
     };
-    let (asker, rest) = match client_in(alloc, fields) {
+    let (client, rest) = match client_in(alloc, fields) {
         Ok(found) => found,
         Err(flaw) => return Err(flaw),
     };
@@ -208,7 +208,7 @@ fn entry_in(alloc: Global, bytes: &[u8]) -> Result<JournalEntry<'_>, DecodeFault
         return Err(DecodeFault::Malformed);
     };
     let entry = JournalEntry {
-        asker,
+        client,
         at,
         verb,
         target,

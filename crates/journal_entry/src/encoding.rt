@@ -1,6 +1,6 @@
 //! Encoders of the fields of payloads.
 ghost use Rattle.std.specs.Prelude.{◌≡◌, ◌++◌, OnOk};
-ghost use Rattle.journal_entry.specs.Entries.{moment_text, size_text, id_text, asker_text, verb_code};
+ghost use Rattle.journal_entry.specs.Entries.{moment_text, size_text, id_text, client_text, verb_code};
 
 use crate::entry::EntryClient;
 use mds_request::Verb;
@@ -54,11 +54,11 @@ pub(crate) fn push_id(alloc: Global, text: &mut Vec<u8>, id: Id) -> Result<(), A
 pub(crate) fn push_client(
     alloc: Global,
     text: &mut Vec<u8>,
-    asker: EntryClient,
+    client: EntryClient,
 ) -> Result<(), AllocError>
-    ensures { OnOk result (text.new.items ≡ text.old.items ++ asker_text asker) }
+    ensures { OnOk result (text.new.items ≡ text.old.items ++ client_text client) }
 {
-    match asker {
+    match client {
         EntryClient::Author => {
             text.push(BY_AUTHOR)?;
             Ok(())

@@ -25,7 +25,7 @@ pub enum EntryClient {
 /// An accepted request, with its client in place of the access token.
 #[derive(Clone, Copy)]
 pub struct JournalEntry<'a> {
-    pub asker: EntryClient,
+    pub client: EntryClient,
     /// The moment at which it was answered.
     pub at: Moment,
     pub verb: Verb,
@@ -70,7 +70,7 @@ fn text_of(alloc: Global, entry: &JournalEntry<'_>) -> Result<Vec<u8>, AllocErro
     text.push(ENTRY)?;
     push_moment(&mut text, entry.at)?;
     text.push(verb_code(entry.verb))?;
-    push_client(alloc, &mut text, entry.asker)?;
+    push_client(alloc, &mut text, entry.client)?;
     push_size(&mut text, entry.target.len() as u32)?;
     text.extend_from_slice(entry.target)?;
     text.extend_from_slice(entry.body)?;

@@ -3,7 +3,7 @@ ghost use Rattle.std.specs.Prelude.{◌≡◌, option_map, map, position, bytes_
 ghost use Rattle.mds_request.specs.Configuration.{configuration, operator};
 ghost use Rattle.mds_request.specs.Request.{request_of};
 ghost use Rattle.journal_entry.specs.Entries.{entry_of};
-ghost use Rattle.journal_entry.specs.Requests.{ReadsTheRequest, has_id, actor_by, token_of, asker_at, entry_by, request_by};
+ghost use Rattle.journal_entry.specs.Requests.{ReadsTheRequest, has_id, actor_by, token_of, client_at, entry_by, request_by};
 
 use crate::entry::{EntryClient, JournalEntry};
 use mds_request::{Actor, Config, Operator, Request};
@@ -26,10 +26,10 @@ fn place_of(operators: &[Operator], id: Id) -> Option<usize>
 }
 
 /// The client of an entry in a configuration; `Nobody` for an operator that isn't there.
-pub fn actor_by(config: &Config, asker: EntryClient) -> Actor
-    ensures { result ≡ actor_by (configuration config.now) asker }
+pub fn actor_by(config: &Config, client: EntryClient) -> Actor
+    ensures { result ≡ actor_by (configuration config.now) client }
 {
-    match asker {
+    match client {
         EntryClient::Author => Actor::Author,
         EntryClient::Operator(id) => match place_of(config.operators(), id) {
             Some(place) => Actor::Operator(place),
@@ -57,7 +57,7 @@ fn token_of(config: &Config, actor: Actor) -> Option<&[u8]>
 pub fn request_by<'a>(config: &'a Config, entry: &JournalEntry<'a>) -> Option<Request<'a>>
     ensures { option_map request_of result ≡ request_by (configuration config.now) (entry_of entry.now) }
 {
-    match token_of(config, actor_by(config, entry.asker)) {
+    match token_of(config, actor_by(config, entry.client)) {
         Some(token) => Some(Request {
             at: entry.at,
             token,
@@ -71,7 +71,7 @@ pub fn request_by<'a>(config: &'a Config, entry: &JournalEntry<'a>) -> Option<Re
 
 /// The client, as an entry has it.
 fn client_at(config: &Config, actor: Actor) -> Option<EntryClient>
-    ensures { result ≡ asker_at (configuration config.now) actor }
+    ensures { result ≡ client_at (configuration config.now) actor }
 {
     match actor {
         Actor::Author => Some(EntryClient::Author),
@@ -88,8 +88,8 @@ pub fn entry_by<'a>(config: &Config, request: &Request<'a>) -> Option<JournalEnt
     ensures { option_map entry_of result ≡ entry_by (configuration config.now) (request_of request.now) }
 {
     match client_at(config, config.actor(request.token)) {
-        Some(asker) => Some(JournalEntry {
-            asker,
+        Some(client) => Some(JournalEntry {
+            client,
             at: request.at,
             verb: request.verb,
             target: request.target,

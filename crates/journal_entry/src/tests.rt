@@ -27,7 +27,7 @@ fn has_its_text<'a>(
     expected: &'a [u8],
 ) -> Result<(), Fail> {
     let entry = JournalEntry {
-        asker: EntryClient::Operator(Id::read(ALFA).ok_or("id")?),
+        client: EntryClient::Operator(Id::read(ALFA).ok_or("id")?),
         at: Moment::new(1000).ok_or("moment")?,
         verb: Verb::Post,
         target,
@@ -39,7 +39,7 @@ fn has_its_text<'a>(
         assert!(rt; false);
         return Ok(());
     };
-    assert!(rt; read.asker == entry.asker);
+    assert!(rt; read.client == entry.client);
     assert!(rt; read.at == entry.at);
     assert!(rt; read.verb == Verb::Post);
     assert!(rt; read.target == target);

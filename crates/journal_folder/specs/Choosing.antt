@@ -17,7 +17,7 @@ asks_dropped dropped (Operator id) = is_dropped dropped id
 
 -- the entries of all but these operators
 abbrev pub without : List (List ℕ) → List Entry → List Entry
-without dropped entries = filter (λ e. not (asks_dropped dropped e.asker)) entries
+without dropped entries = filter (λ e. not (asks_dropped dropped e.client)) entries
 
 -- What a head requires of a configuration: each operator of it that isn't left out. Its limit doesn't matter here:
 -- whether a lower one has room for what is persisted shows as the entries are replayed.
@@ -29,7 +29,7 @@ needed dropped shares = map present (filter (λ s. not (is_dropped dropped s.id)
 
 -- an entry of the author, or of the operator that is asked for, or of any where none is
 abbrev pub concerns : Option (List ℕ) → EntryClient → Bool
-concerns None asker = true
+concerns None client = true
 concerns (Some operator) Author = true
 concerns (Some operator) (Operator id) = bytes_eq id operator
 
@@ -45,4 +45,4 @@ in_time last (e ∷ entries) = if is_later last e.at then [] else e ∷ in_time 
 
 -- the entries that are extracted: of those, the ones of the author and of the operator that is asked for
 abbrev pub told : Option ℕ → Option (List ℕ) → List Entry → List Entry
-told last operator entries = filter (λ e. concerns operator e.asker) (in_time last entries)
+told last operator entries = filter (λ e. concerns operator e.client) (in_time last entries)

@@ -36,10 +36,10 @@ pub(crate) fn is_dropped(dropped: &[Id], id: Id) -> bool
 }
 
 /// Whether the client is left out.
-fn is_client_dropped(dropped: &[Id], asker: EntryClient) -> bool
-    ensures { result ≡ asks_dropped dropped.now asker }
+fn is_client_dropped(dropped: &[Id], client: EntryClient) -> bool
+    ensures { result ≡ asks_dropped dropped.now client }
 {
-    match asker {
+    match client {
         EntryClient::Author => false,
         EntryClient::Operator(id) => is_dropped(dropped, id),
     }
@@ -50,7 +50,7 @@ fn copy_of<'a>(entry: &JournalEntry<'a>) -> JournalEntry<'a>
     ensures { entry_of result ≡ entry_of entry.now }
 {
     JournalEntry {
-        asker: entry.asker,
+        client: entry.client,
         at: entry.at,
         verb: entry.verb,
         target: entry.target,
@@ -85,7 +85,7 @@ pub fn without_operators<'a>(
 {
     let mut kept = Vec::new(alloc);
     for entry in entries {
-        if !is_client_dropped(dropped, entry.asker) {
+        if !is_client_dropped(dropped, entry.client) {
             push_copy(&mut kept, entry)?;
         }
     }
@@ -93,10 +93,10 @@ pub fn without_operators<'a>(
 }
 
 /// Whether the client is the author, or the operator that is asked for, or any where none is.
-fn concerns(extract: &Extract, asker: EntryClient) -> bool
-    ensures { result ≡ concerns extract.now.operator asker }
+fn concerns(extract: &Extract, client: EntryClient) -> bool
+    ensures { result ≡ concerns extract.now.operator client }
 {
-    match (extract.operator, asker) {
+    match (extract.operator, client) {
         (Some(operator), EntryClient::Operator(id)) => is_same(id, operator),
         _ => true,
     }
@@ -140,7 +140,7 @@ pub fn extract_entries<'a>(
     let early = &entries[..count_in_time(entries, extract)];
     let mut kept = Vec::new(alloc);
     for entry in early {
-        if concerns(extract, entry.asker) {
+        if concerns(extract, entry.client) {
             push_copy(&mut kept, entry)?;
         }
     }

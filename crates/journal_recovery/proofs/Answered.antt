@@ -49,18 +49,18 @@ apart a b other same = absurd (grind (arith, nat_tests, other, same))
 
 -- ---- requests among entries
 
-pub first_own : (c : Configuration) (actor : Actor) (e : Entry) (entries : List Entry) (request : Request) → is_actor actor (actor_by c e.asker) ≡ true
+pub first_own : (c : Configuration) (actor : Actor) (e : Entry) (entries : List Entry) (request : Request) → is_actor actor (actor_by c e.client) ≡ true
     → request_by c e ≡ Some request → requests_by c actor (e ∷ entries) ≡ request ∷ requests_by c actor entries
 first_own c actor e entries request own is =
     ap (λ (b : Bool). (cond b (option_to_list (request_by c e)) []) ++ requests_by c actor entries) own
     ∙ ap (λ (o : Option Request). option_to_list o ++ requests_by c actor entries) is
 
-pub first_other : (c : Configuration) (actor : Actor) (e : Entry) (entries : List Entry) → is_actor actor (actor_by c e.asker) ≡ false
+pub first_other : (c : Configuration) (actor : Actor) (e : Entry) (entries : List Entry) → is_actor actor (actor_by c e.client) ≡ false
     → requests_by c actor (e ∷ entries) ≡ requests_by c actor entries
 first_other c actor e entries other = ap (λ (b : Bool). (cond b (option_to_list (request_by c e)) []) ++ requests_by c actor entries) other
 
 -- the author's entry is read with the author's token
-authors_own : (c : Configuration) (e : Entry) (request : Request) → actor_by c e.asker ≡ Author → request_by c e ≡ Some request
+authors_own : (c : Configuration) (e : Entry) (request : Request) → actor_by c e.client ≡ Author → request_by c e ≡ Some request
     → is_authors c request ≡ true
 authors_own c e request who is =
     let read : with_token e c.author ≡ request = the_same (with_token e c.author) request (ap (λ (a : Actor). option_map (with_token e) (token_of c a)) (sym who) ∙ is) in
@@ -114,7 +114,7 @@ stays c request reply (OperatorAt at) s b is again = record {
 }
 stays c request reply Nobody s b is again = absurd again
 
-room_with : (c : Configuration) (e : Entry) (entries : List Entry) (s b next : Server) (request : Request) (reply : Reply) (actor : Actor) → actor_by c e.asker ≡ actor
+room_with : (c : Configuration) (e : Entry) (entries : List Entry) (s b next : Server) (request : Request) (reply : Reply) (actor : Actor) → actor_by c e.client ≡ actor
     → request_by c e ≡ Some request → reply.status ≡ 200 → IsServerOf c s → Answers actor request reply s b → IsRoomRecovered c entries b next
     → IsRoomRecovered c (e ∷ entries) s next
 room_with c e entries s b next request reply Author who read served is again rest = record {
@@ -136,7 +136,7 @@ room_with c e entries s b next request reply Nobody who read served is again res
 
 -- the desk's own entry
 desk_own : (c : Configuration) (e : Entry) (entries : List Entry) (s b next : Server) (request : Request) (reply : Reply) (place : ℕ) (operator : Operator) (d : DeskState)
-    → actor_by c e.asker ≡ OperatorAt place → request_by c e ≡ Some request → reply.status ≡ 200 → IsServerOf c s → (again : DeskAnswers place request reply s b)
+    → actor_by c e.client ≡ OperatorAt place → request_by c e ≡ Some request → reply.status ≡ 200 → IsServerOf c s → (again : DeskAnswers place request reply s b)
     → slice_get c.operators place ≡ Some operator → slice_get s.desks place ≡ Some d
     → ((after : DeskState) → slice_get b.desks place ≡ Some after → IsDeskRecovered c entries b next place operator after)
     → IsDeskRecovered c (e ∷ entries) s next place operator d
@@ -164,7 +164,7 @@ desk_own c e entries s b next request reply place operator d who read served is 
 
 -- another operator's entry
 desk_other : (c : Configuration) (e : Entry) (entries : List Entry) (s b next : Server) (request : Request) (reply : Reply) (at place : ℕ) (operator : Operator) (d : DeskState)
-    → actor_by c e.asker ≡ OperatorAt at → nat_eq place at ≡ false → DeskAnswers at request reply s b → slice_get s.desks place ≡ Some d
+    → actor_by c e.client ≡ OperatorAt at → nat_eq place at ≡ false → DeskAnswers at request reply s b → slice_get s.desks place ≡ Some d
     → ((after : DeskState) → slice_get b.desks place ≡ Some after → IsDeskRecovered c entries b next place operator after)
     → IsDeskRecovered c (e ∷ entries) s next place operator d
 desk_other c e entries s b next request reply at place operator d who other again there rests =
@@ -183,7 +183,7 @@ desk_other c e entries s b next request reply at place operator d who other agai
 
 -- the author's entry
 desk_learns : (c : Configuration) (e : Entry) (entries : List Entry) (s b next : Server) (request : Request) (reply : Reply) (place : ℕ) (operator : Operator) (d : DeskState)
-    → actor_by c e.asker ≡ Author → RoomAnswers request reply s b → slice_get s.desks place ≡ Some d
+    → actor_by c e.client ≡ Author → RoomAnswers request reply s b → slice_get s.desks place ≡ Some d
     → ((after : DeskState) → slice_get b.desks place ≡ Some after → IsDeskRecovered c entries b next place operator after)
     → IsDeskRecovered c (e ∷ entries) s next place operator d
 desk_learns c e entries s b next request reply place operator d who again there rests =
@@ -205,7 +205,7 @@ desk_learns c e entries s b next request reply place operator d who again there 
     }
 
 desk_at : (c : Configuration) (e : Entry) (entries : List Entry) (s b next : Server) (request : Request) (reply : Reply) (at place : ℕ) (operator : Operator) (d : DeskState)
-    (same : Bool) → nat_eq place at ≡ same → actor_by c e.asker ≡ OperatorAt at → request_by c e ≡ Some request → reply.status ≡ 200 → IsServerOf c s
+    (same : Bool) → nat_eq place at ≡ same → actor_by c e.client ≡ OperatorAt at → request_by c e ≡ Some request → reply.status ≡ 200 → IsServerOf c s
     → DeskAnswers at request reply s b → slice_get c.operators place ≡ Some operator → slice_get s.desks place ≡ Some d
     → ((after : DeskState) → slice_get b.desks place ≡ Some after → IsDeskRecovered c entries b next place operator after)
     → IsDeskRecovered c (e ∷ entries) s next place operator d
@@ -217,7 +217,7 @@ desk_at c e entries s b next request reply at place operator d false is_same who
     desk_other c e entries s b next request reply at place operator d who is_same again there rests
 
 desk_with : (c : Configuration) (e : Entry) (entries : List Entry) (s b next : Server) (request : Request) (reply : Reply) (actor : Actor) (place : ℕ) (operator : Operator)
-    (d : DeskState) → actor_by c e.asker ≡ actor → request_by c e ≡ Some request → reply.status ≡ 200 → IsServerOf c s → Answers actor request reply s b
+    (d : DeskState) → actor_by c e.client ≡ actor → request_by c e ≡ Some request → reply.status ≡ 200 → IsServerOf c s → Answers actor request reply s b
     → slice_get c.operators place ≡ Some operator → slice_get s.desks place ≡ Some d
     → ((after : DeskState) → slice_get b.desks place ≡ Some after → IsDeskRecovered c entries b next place operator after)
     → IsDeskRecovered c (e ∷ entries) s next place operator d
@@ -249,10 +249,10 @@ answered c (e ∷ entries) s next is are =
     let request = are.1.2.0 in
     let read = are.1.2.1 in
     let again = are.1.2.2 in
-    let rest = answered c entries b next (stays c request reply (actor_by c e.asker) s b is again) are.2 in (
+    let rest = answered c entries b next (stays c request reply (actor_by c e.client) s b is again) are.2 in (
       rest.0,
-      room_with c e entries s b next request reply (actor_by c e.asker) refl read served is again rest.1,
+      room_with c e entries s b next request reply (actor_by c e.client) refl read served is again rest.1,
       λ place operator d found there.
-          desk_with c e entries s b next request reply (actor_by c e.asker) place operator d refl read served is again found there
+          desk_with c e entries s b next request reply (actor_by c e.client) place operator d refl read served is again found there
           (λ after here. rest.2 place operator after found here),
     )

@@ -20,7 +20,7 @@ use Rattle.journal_laws.specs.Persisted.{is_kept, kept}
 use Rattle.journal_laws.specs.Persisted.{requests_in as room_requests_in}
 use Rattle.journal_laws.specs.Servers.{kept_turns}
 use Rattle.journal_entry.specs.Entries.{Entry}
-use Rattle.journal_entry.specs.Requests.{has_id, actor_by, request_by, asker_at, asked_by, ReadsTheRequest}
+use Rattle.journal_entry.specs.Requests.{has_id, actor_by, request_by, client_at, asked_by, ReadsTheRequest}
 use Rattle.journal_entry.specs.declared.entry.EntryClient.TheVariants.{Author as TheAuthor, Operator as OperatorBy}
 use Rattle.journal_recovery.specs.Laws.{is_actor, requests_by, is_turn_kept, IsEntryOf, IsOneTurnMore, JournalGrowsByExchange, JournalGrowsByTurn}
 use Rattle.journal_recovery.proofs.Lists.{the_same, none_some}
@@ -65,21 +65,21 @@ found_at operators place o alone is =
 
 asked_at : (c : Configuration) (r : Request) (entry : Entry) (place : ℕ) (here : Option Operator) → repeats (ids c.operators) ≡ false
     → slice_get c.operators place ≡ here → option_map (asked_by r) (option_map (λ (o : Operator). OperatorBy o.id) here) ≡ Some entry
-    → actor_by c entry.asker ≡ OperatorAt place
+    → actor_by c entry.client ≡ OperatorAt place
 asked_at c r entry place None alone is e = absurd (none_some entry e)
 asked_at c r entry place (Some o) alone is e =
-    ap (λ (x : Entry). actor_by c x.asker) (sym (the_same (asked_by r (OperatorBy o.id)) entry e)) ∙ ap operator_at (found_at c.operators place o alone is)
+    ap (λ (x : Entry). actor_by c x.client) (sym (the_same (asked_by r (OperatorBy o.id)) entry e)) ∙ ap operator_at (found_at c.operators place o alone is)
 
 asked_by_actor : (c : Configuration) (r : Request) (entry : Entry) (actor : Actor) → repeats (ids c.operators) ≡ false
-    → option_map (asked_by r) (asker_at c actor) ≡ Some entry → actor_by c entry.asker ≡ actor
-asked_by_actor c r entry Author alone e = ap (λ (x : Entry). actor_by c x.asker) (sym (the_same (asked_by r TheAuthor) entry e))
+    → option_map (asked_by r) (client_at c actor) ≡ Some entry → actor_by c entry.client ≡ actor
+asked_by_actor c r entry Author alone e = ap (λ (x : Entry). actor_by c x.client) (sym (the_same (asked_by r TheAuthor) entry e))
 asked_by_actor c r entry (OperatorAt place) alone e = asked_at c r entry place (slice_get c.operators place) alone refl e
 asked_by_actor c r entry Nobody alone e = absurd (none_some entry e)
 
 who_asks : (c : Configuration) (r : Request) (entry : Entry) (actor : Actor) → IsEntryOf c r entry → actor_of c r.token ≡ actor
-    → actor_by c entry.asker ≡ actor
+    → actor_by c entry.client ≡ actor
 who_asks c r entry actor is who =
-    asked_by_actor c r entry actor is.0 (ap (λ (a : Actor). option_map (asked_by r) (asker_at c a)) (sym who) ∙ is.1)
+    asked_by_actor c r entry actor is.0 (ap (λ (a : Actor). option_map (asked_by r) (client_at c a)) (sym who) ∙ is.1)
 
 the_author : (actor : Actor) → is_the_author actor ≡ true → actor ≡ Author
 the_author Author is = refl
@@ -97,15 +97,15 @@ pub requests_of_both : (c : Configuration) (actor : Actor) (front rest : List En
     → requests_by c actor (front ++ rest) ≡ requests_by c actor front ++ requests_by c actor rest
 requests_of_both c actor [] rest = refl
 requests_of_both c actor (e ∷ front) rest =
-    let own = cond (is_actor actor (actor_by c e.asker)) (option_to_list (request_by c e)) [] in
+    let own = cond (is_actor actor (actor_by c e.client)) (option_to_list (request_by c e)) [] in
     ap (λ (rs : List Request). own ++ rs) (requests_of_both c actor front rest) ∙ sym (append_assoc own (requests_by c actor front) (requests_by c actor rest))
 
-own_more : (c : Configuration) (actor : Actor) (entries : List Entry) (entry : Entry) (r : Request) → is_actor actor (actor_by c entry.asker) ≡ true
+own_more : (c : Configuration) (actor : Actor) (entries : List Entry) (entry : Entry) (r : Request) → is_actor actor (actor_by c entry.client) ≡ true
     → request_by c entry ≡ Some r → requests_by c actor (entries ++ entry ∷ []) ≡ requests_by c actor entries ++ r ∷ []
 own_more c actor entries entry r own is =
     requests_of_both c actor entries (entry ∷ []) ∙ ap (λ (rs : List Request). requests_by c actor entries ++ rs) (first_own c actor entry [] r own is)
 
-other_more : (c : Configuration) (actor : Actor) (entries : List Entry) (entry : Entry) → is_actor actor (actor_by c entry.asker) ≡ false
+other_more : (c : Configuration) (actor : Actor) (entries : List Entry) (entry : Entry) → is_actor actor (actor_by c entry.client) ≡ false
     → requests_by c actor (entries ++ entry ∷ []) ≡ requests_by c actor entries
 other_more c actor entries entry other =
     requests_of_both c actor entries (entry ∷ []) ∙ ap (λ (rs : List Request). requests_by c actor entries ++ rs) (first_other c actor entry [] other)
@@ -182,7 +182,7 @@ same_at c turns next place other turn false same more is = ap (desk_keeps c) (sy
 
 -- where the turn's entry is appended
 more_at : (c : Configuration) (entries : List Entry) (entry : Entry) (turns next : ℕ → List Turn) (place other : ℕ) (turn : Turn) (same : Bool)
-    → nat_eq other place ≡ same → IsOneTurnMore turns place turn next → is_turn_kept c turn ≡ true → actor_by c entry.asker ≡ OperatorAt place
+    → nat_eq other place ≡ same → IsOneTurnMore turns place turn next → is_turn_kept c turn ≡ true → actor_by c entry.client ≡ OperatorAt place
     → request_by c entry ≡ Some turn.request → requests_by c (OperatorAt other) entries ≡ desk_keeps c (turns other)
     → requests_by c (OperatorAt other) (entries ++ entry ∷ []) ≡ desk_keeps c (next other)
 more_at c entries entry turns next place other turn true same more is who read so_far =

@@ -35,7 +35,7 @@ is_actor actor other = false
 abbrev pub requests_by : Configuration → Actor → List Entry → List Request
 requests_by configuration actor [] = []
 requests_by configuration actor (e ∷ entries) =
-    (if is_actor actor (actor_by configuration e.asker) then option_to_list (request_by configuration e) else [])
+    (if is_actor actor (actor_by configuration e.client) then option_to_list (request_by configuration e) else [])
     ++ requests_by configuration actor entries
 
 -- What the room has done where entries were replayed: turns, all successes, on the author's requests among them.

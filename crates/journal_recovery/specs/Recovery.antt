@@ -60,7 +60,7 @@ Answers Nobody request reply s next = ⊥
 abbrev pub IsAnswered : Configuration → Entry → Reply → Server → Server → Type 0
 IsAnswered configuration e reply s next =
     (request : Request) × (request_by configuration e ≡ Some request)
-    × Answers (actor_by configuration e.asker) request reply s next
+    × Answers (actor_by configuration e.client) request reply s next
 
 -- an entry is replayed: answered with success
 abbrev pub IsAnsweredAgain : Configuration → Entry → Server → Server → Type 0
@@ -79,7 +79,7 @@ HasNoDesk Nobody s = Unit {0}
 
 -- the configuration has no access token for the entry's client, or the client has no desk
 abbrev pub IsWithoutDesk : Configuration → Entry → Server → Type 0
-IsWithoutDesk configuration e s = (request_by configuration e ≡ None) ⊎ HasNoDesk (actor_by configuration e.asker) s
+IsWithoutDesk configuration e s = (request_by configuration e ≡ None) ⊎ HasNoDesk (actor_by configuration e.client) s
 
 -- why an entry isn't replayed
 abbrev pub IsRefused : Configuration → Entry → Cause → Server → Server → Type 0

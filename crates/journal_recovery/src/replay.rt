@@ -113,7 +113,7 @@ fn replay_entry<'a, K: OpeningName, R: Wait>(
     let Some(request) = request_by(config, entry) else {
         return Err(Cause::NoDesk);
     };
-    let actor = actor_by(config, entry.asker);
+    let actor = actor_by(config, entry.client);
     match answer_at(rt, room, desks, actor, &request) {
         None => Err(Cause::NoDesk),
         Some(SUCCESS) => Ok(()),

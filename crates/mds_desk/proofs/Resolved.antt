@@ -55,8 +55,8 @@ module _ (configuration : Configuration) (request : Request) where
         another_at operator front rows (ap (is_place place) (call_of-caller configuration request given resolved) ∙ other)
         ∙ ap (λ r. (refused (refusal_of r), rows)) resolved
 
-    pub operator_elsewhere : (asker : ℕ) (own : OperatorCall) → call_of configuration request ≡ Ok (call.Operator asker own) → asker ≢ place → IsRefusedAt configuration place request Token
-    operator_elsewhere asker own resolved other = another_calls (call.Operator asker own) resolved (ne_eqb place asker (λ same. other (sym same)))
+    pub operator_elsewhere : (client : ℕ) (own : OperatorCall) → call_of configuration request ≡ Ok (call.Operator client own) → client ≢ place → IsRefusedAt configuration place request Token
+    operator_elsewhere client own resolved other = another_calls (call.Operator client own) resolved (ne_eqb place client (λ same. other (sym same)))
 
     pub author_elsewhere : (own : AuthorCall) → call_of configuration request ≡ Ok (call.Author own) → IsRefusedAt configuration place request Token
     author_elsewhere own resolved = another_calls (call.Author own) resolved refl
@@ -88,9 +88,9 @@ module _ (configuration : Configuration) (request : Request) where
       ∙ ap (λ r. r >>= authors_call >>= λ own. author_does held.0 held.1 own request) resolved
 
   -- a call of an operator is refused there
-  pub operator_in_room : (asker : ℕ) (own : OperatorCall) → call_of configuration request ≡ Ok (call.Operator asker own) → IsRefusedInRoom configuration request Token
-  operator_in_room asker own resolved held =
-      room_another held (ap is_the_author (call_of-caller configuration request (call.Operator asker own) resolved))
+  pub operator_in_room : (client : ℕ) (own : OperatorCall) → call_of configuration request ≡ Ok (call.Operator client own) → IsRefusedInRoom configuration request Token
+  operator_in_room client own resolved held =
+      room_another held (ap is_the_author (call_of-caller configuration request (call.Operator client own) resolved))
       ∙ ap (λ r. Err (refusal_of r)) resolved
 
   -- what the table of calls refuses is refused there: the author's with the same code

@@ -33,8 +33,8 @@ impl<K: OpeningName> DeskContext<K> {
         ensures refused { IfErr result (IsRefusedAt (configuration self.now.config.value) self.now.place (request_of request.now)) }
     {
         match read_call(&self.routes, &self.config, request) {
-            Ok(Call::Operator(asker, call)) => {
-                if asker == self.place {
+            Ok(Call::Operator(client, call)) => {
+                if client == self.place {
                     Ok(call)
                 } else {
                     Err(Code::Token)
@@ -51,7 +51,7 @@ impl<K: OpeningName> DeskContext<K> {
         ensures { IsRefusedAt (configuration self.now.config.value) self.now.place (request_of request.now) result }
     {
         match self.config.actor(request.token) {
-            Actor::Operator(asker) if asker == self.place => code,
+            Actor::Operator(client) if client == self.place => code,
             _ => refusal_of_another(code),
         }
     }

@@ -33,7 +33,7 @@ IsStartedFromLog may_be configuration dropped s = (texts : List (List ℕ)) × m
 -- whether a client's request with this verb publishes: to publish is the author's only POST
 abbrev pub publishes : EntryClient → Verb → Bool
 publishes Author Post = true
-publishes asker verb = false
+publishes client verb = false
 
 abbrev pub is_publication : Entry → Bool
-is_publication e = publishes e.asker e.verb
+is_publication e = publishes e.client e.verb

@@ -140,8 +140,8 @@ where
 {
     let alloc = rt.alloc();
     count_vehicles(rt, &hall, stage.board.counters)?;
-    let askers = stage.queues.clients();
-    let (keeper, flusher, nothing) = open::<N, L, S>(alloc, history, log, space, askers)?;
+    let clients = stage.queues.clients();
+    let (keeper, flusher, nothing) = open::<N, L, S>(alloc, history, log, space, clients)?;
     let Ok(keeper) = Arc::new(alloc, keeper) else {
         return Err(ExitCause::NoMemory);
     };

@@ -64,7 +64,7 @@ fn fitting_texts<'a>(
 fn is_publication(entry: &JournalEntry<'_>) -> bool
     ensures { result ≡ is_publication (entry_of entry.now) }
 {
-    matches!((entry.asker, entry.verb), (EntryClient::Author, Verb::Post))
+    matches!((entry.client, entry.verb), (EntryClient::Author, Verb::Post))
 }
 
 /// How many of these entries are publications.
@@ -121,7 +121,7 @@ fn full_fleet(entries: &[JournalEntry<'_>], fault: &StartFault) -> Option<Id> {
     if stopped.cause != Cause::Refused(CONFLICT) {
         return None;
     }
-    match entries.get(stopped.entry)?.asker {
+    match entries.get(stopped.entry)?.client {
         EntryClient::Operator(id) => Some(id),
         EntryClient::Author => None,
     }

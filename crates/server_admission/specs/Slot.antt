@@ -6,11 +6,11 @@ use Rattle.server_admission.specs.declared.limits.TheConstants.{MOST_CONNECTIONS
 
 -- anonymous comes first
 abbrev pub most_of : ℕ → ℕ
-most_of asker = if asker == 0 then MOST_ANONYMOUS else MOST_OF_CLIENT
+most_of client = if client == 0 then MOST_ANONYMOUS else MOST_OF_CLIENT
 
 -- the client has more connections than it may
 abbrev pub is_over : List ℕ → ℕ → Bool
-is_over counts asker = nat_lt (most_of asker) (slice_index counts asker)
+is_over counts client = nat_lt (most_of client) (slice_index counts client)
 
 -- how many clients have no connection; anonymous isn't counted among them
 abbrev pub without_any : List ℕ → ℕ

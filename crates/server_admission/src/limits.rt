@@ -64,7 +64,7 @@ pub const MOST_WAITING: usize = 1_024;
 /// at most 1,024 requests of one client wait.
 pub fn limits_of_connections()
     ensures all { MOST_CONNECTIONS ≡ 4096 }
-    ensures strangers { MOST_ANONYMOUS ≡ 2048 }
+    ensures anonymous { MOST_ANONYMOUS ≡ 2048 }
     ensures each { MOST_OF_CLIENT ≡ 512 }
     ensures waiting { MOST_WAITING ≡ 1024 }
     ensures short { MOST_SHORT ≡ 4096 }

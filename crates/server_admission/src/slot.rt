@@ -19,14 +19,14 @@ pub enum Decision {
 /// have at most half of all slots and any other client at most `MOST_OF_CLIENT`: beyond that, one of
 /// its own is closed. One slot is reserved for each client that has none: where all others are
 /// taken, a connection of the client with the most is closed.
-pub fn slot_for(counts: &[usize], all: usize, asker: usize) -> Decision
-    ensures own { IsTrue (is_over counts.now asker) → result ≡ Close asker }
-    ensures most { IsFalse (is_over counts.now asker) → IsTrue (is_full counts.now all)
+pub fn slot_for(counts: &[usize], all: usize, client: usize) -> Decision
+    ensures own { IsTrue (is_over counts.now client) → result ≡ Close client }
+    ensures most { IsFalse (is_over counts.now client) → IsTrue (is_full counts.now all)
         → (place : ℕ) × (result ≡ Close place) × HasMost counts.now place }
-    ensures takes { IsFalse (is_over counts.now asker) → IsFalse (is_full counts.now all) → result ≡ Take }
+    ensures takes { IsFalse (is_over counts.now client) → IsFalse (is_full counts.now all) → result ≡ Take }
 {
-    if is_over(counts, asker) {
-        Decision::Close(asker)
+    if is_over(counts, client) {
+        Decision::Close(client)
     } else if is_full(counts, all) {
         Decision::Close(fullest(counts))
     } else {
@@ -35,10 +35,10 @@ pub fn slot_for(counts: &[usize], all: usize, asker: usize) -> Decision
 }
 
 /// The most connections of the client at this index.
-fn most_of(asker: usize) -> usize
-    ensures { result ≡ most_of asker }
+fn most_of(client: usize) -> usize
+    ensures { result ≡ most_of client }
 {
-    if asker == 0 {
+    if client == 0 {
         MOST_ANONYMOUS
     } else {
         MOST_OF_CLIENT
@@ -46,11 +46,11 @@ fn most_of(asker: usize) -> usize
 }
 
 /// Whether the client at this index has more connections than it may.
-fn is_over(counts: &[usize], asker: usize) -> bool
-    ensures { result ≡ is_over counts.now asker }
+fn is_over(counts: &[usize], client: usize) -> bool
+    ensures { result ≡ is_over counts.now client }
 {
-    match counts.get(asker) {
-        Some(count) => *count > most_of(asker),
+    match counts.get(client) {
+        Some(count) => *count > most_of(client),
         None => false,
     }
 }

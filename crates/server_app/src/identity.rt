@@ -99,10 +99,10 @@ fn operator_reply(
 /// # Errors
 ///
 /// Out of memory.
-pub fn whoami(alloc: Global, badges: &OperatorNames, asker: Actor) -> Result<Reply, AllocError>
-    ensures { IfOk result (λ r. r ≡ who_reply (badges_view badges.now) asker) }
+pub fn whoami(alloc: Global, badges: &OperatorNames, client: Actor) -> Result<Reply, AllocError>
+    ensures { IfOk result (λ r. r ≡ who_reply (badges_view badges.now) client) }
 {
-    match asker {
+    match client {
         Actor::Author => json_reply(alloc, &author_tree(alloc, badges)?),
         Actor::Operator(place) => {
             operator_reply(alloc, badges.zone.as_str(), badges.operators.get(place))

@@ -1,6 +1,6 @@
 mod Accepted
 mod Among
-mod Askers
+mod Clients
 pub mod Cities
 mod Cutting
 mod Own

@@ -103,8 +103,8 @@ module _ (configuration : Configuration) (request : Request) (call : Result Stat
   reporter_is place is = its_way (Ok (Reports place)) is
 
   -- an operator that asks a question has its place in the configuration
-  pub asker_within : (place : ℕ) (question : Question) → call ≡ Ok (OperatorAsks place question) → place < length configuration.operators
-  asker_within place question is =
+  pub client_within : (place : ℕ) (question : Question) → call ≡ Ok (OperatorAsks place question) → place < length configuration.operators
+  client_within place question is =
       subst (IsWithin (length configuration.operators)) (its_way (Ok (OperatorAsks place question)) is) (is_within configuration request.token)
 
 -- ---- the response

@@ -32,7 +32,7 @@ IsAmong text texts = (before : List (List ℕ)) × (after : List (List ℕ)) × 
 
 -- the payload of the record of this client's request
 abbrev pub record_by : EntryClient → Request → List ℕ
-record_by asker request = entry_text (asked_by request asker)
+record_by client request = entry_text (asked_by request client)
 
 -- the payload is that of the request's entry, with its client and no access token
 pub record IsRecordOf (configuration : Configuration) (request : Request) (text : List ℕ) : Type 0 where

@@ -179,9 +179,9 @@ impl<K: HallName, N: LogName, L: Log, S: Space> DurableHall<K, N, L, S> {
             return Ok(CallReservation::Reads);
         }
         let config = self.hall.configuration()?;
-        let asker = client_of(&*config, call);
+        let client = client_of(&*config, call);
         let request = heard.request();
-        let text = record_text(alloc, asker, &request)?;
+        let text = record_text(alloc, client, &request)?;
         match self.keeper.reserve(rt, share_index(call), text) {
             Ok(place) => Ok(CallReservation::Holds(place)),
             Err(fault) => Err(NoReservation::from(fault)),

@@ -103,14 +103,14 @@ fn refusals(
 /// `NoMemory`: a request's target is too long for a record, or out of memory.
 fn record_texts(
     alloc: Global,
-    asker: &EntryClient,
+    client: &EntryClient,
     requests: &[Request<'_>],
 ) -> Result<Vec<Vec<u8>>, NoReservation>
-    ensures { IfOk result (λ texts. map (λ text. text.items) texts.items ≡ map (record_by asker.now) (map request_of requests.now)) }
+    ensures { IfOk result (λ texts. map (λ text. text.items) texts.items ≡ map (record_by client.now) (map request_of requests.now)) }
 {
     let mut texts = Vec::with_capacity(alloc, requests.len())?;
     for request in requests {
-        let text = record_text(alloc, *asker, request)?;
+        let text = record_text(alloc, *client, request)?;
         texts.push_reserved(text);
     }
     Ok(texts)
@@ -227,8 +227,8 @@ impl<K: HallName, N: LogName, L: Log, S: Space> DurableHall<K, N, L, S> {
             (map (λ text. text.items) places.texts.items)) }
     {
         let config = self.hall.configuration()?;
-        let asker = operator_client(&*config, place);
-        let texts = record_texts(alloc, &asker, requests)?;
+        let client = operator_client(&*config, place);
+        let texts = record_texts(alloc, &client, requests)?;
         let sharer = index_of(Actor::Operator(place));
         match self.keeper.reserve_all(rt, sharer, texts) {
             Ok(places) => Ok(places),
@@ -450,7 +450,7 @@ pub(crate) fn many_reports<
     city: &DurableHall<K, N, L, S>,
 ) -> Result<ResponseAfterSync<N, L, S>, NoResponse>
     requires judge { E.may_judge }
-    requires asker { actor_of K.configuration (request_heard heard.now).token ≡ Operator place }
+    requires client { actor_of K.configuration (request_heard heard.now).token ≡ Operator place }
     ensures { IfOk result (λ s. Waits (ManyAreAnswered K.configuration place (request_heard heard.now) s.stamp) s.reply) }
 {
     let request = heard.request();

@@ -106,12 +106,12 @@ impl<K: HallName, N: LogName, L: Log, S: Space> DurableHall<K, N, L, S> {
     fn answer_whoami(
         &self,
         alloc: Global,
-        asker: Actor,
+        client: Actor,
     ) -> Result<ResponseAfterSync<N, L, S>, NoResponse>
-        ensures { IfOk result (λ s. Waits (SaysTold (λ reply. reply ≡ who_reply (badges_view self.now.badges) asker)) s.reply) }
+        ensures { IfOk result (λ s. Waits (SaysTold (λ reply. reply ≡ who_reply (badges_view self.now.badges) client)) s.reply) }
     {
         let stamp = self.current_position();
-        let answer = or_no_memory(whoami(alloc, &self.badges, asker));
+        let answer = or_no_memory(whoami(alloc, &self.badges, client));
         self.reply(alloc, AnswerAtPosition { answer, stamp })
     }
 

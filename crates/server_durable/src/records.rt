@@ -1,6 +1,6 @@
 //! The record of a request, and its reservation in the log.
 ghost use Rattle.std.specs.Prelude.{◌≡◌, ◌<◌, ◌==◌, IfOk, Some, length, option_map, slice_get};
-ghost use Rattle.journal_entry.specs.Requests.{asker_at};
+ghost use Rattle.journal_entry.specs.Requests.{client_at};
 ghost use Rattle.server_state.specs.Client.{IsWithin};
 ghost use Rattle.mds_request.specs.Configuration.{configuration};
 ghost use Rattle.mds_request.specs.Request.{request_of};
@@ -115,7 +115,7 @@ pub(crate) fn id_at(config: &Config, place: usize) -> Id
 /// The operator at this place, as a record names it.
 pub(crate) fn operator_client(config: &Config, place: usize) -> EntryClient
     requires { place < length (configuration config.now).operators }
-    ensures { asker_at (configuration config.now) (Operator place) ≡ Some result }
+    ensures { client_at (configuration config.now) (Operator place) ≡ Some result }
 {
     EntryClient::Operator(id_at(config, place))
 }
@@ -123,7 +123,7 @@ pub(crate) fn operator_client(config: &Config, place: usize) -> EntryClient
 /// The client that makes a call, as a record names it.
 pub(crate) fn client_of(config: &Config, call: &Call) -> EntryClient
     requires { IsWithin (length (configuration config.now).operators) (caller_of call.now) }
-    ensures { asker_at (configuration config.now) (caller_of call.now) ≡ Some result }
+    ensures { client_at (configuration config.now) (caller_of call.now) ≡ Some result }
 {
     match call {
         Call::Author(_) => EntryClient::Author,
@@ -145,13 +145,13 @@ pub fn is_accepted(status: u16) -> bool
 /// `NoMemory`: the request's target is too long for a record, or out of memory.
 pub(crate) fn record_text(
     alloc: Global,
-    asker: EntryClient,
+    client: EntryClient,
     request: &Request<'_>,
 ) -> Result<Vec<u8>, NoReservation>
-    ensures { IfOk result (λ text. text.items ≡ record_by asker (request_of request.now)) }
+    ensures { IfOk result (λ text. text.items ≡ record_by client (request_of request.now)) }
 {
     let entry = JournalEntry {
-        asker,
+        client,
         at: request.at,
         verb: request.verb,
         target: request.target,

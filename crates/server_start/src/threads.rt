@@ -8,7 +8,7 @@ use mds_request::Config;
 /// client: the author, the operators, and anonymous.
 pub fn workers(processors: usize, config: &Config) -> usize
     ensures processors { processors ≤ result }
-    ensures askers { length (configuration config.now).operators + 2 ≤ result }
+    ensures clients { length (configuration config.now).operators + 2 ≤ result }
     ensures least { (result ≡ processors) ⊎ (result ≡ length (configuration config.now).operators + 2) }
 {
     processors.max(config.operators().len() + 2)

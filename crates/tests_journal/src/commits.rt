@@ -24,10 +24,10 @@ const AUTHOR: usize = 1;
 fn reserve_fault<K: LogName, L: Log, R: Wait>(
     rt: &R,
     keeper: &CommitLog<K, L, CountedSpace>,
-    asker: usize,
+    client: usize,
     text: Vec<u8>,
 ) -> Option<ReserveFault> {
-    match keeper.reserve(rt, asker, text) {
+    match keeper.reserve(rt, client, text) {
         Ok(place) => {
             keeper.release(rt, place);
             None
@@ -304,10 +304,10 @@ fn expect_settlement<K: LogName, L: Log, R: TestRuntime>(
 fn reserve_all_fault<K: LogName, L: Log, R: Wait>(
     rt: &R,
     keeper: &CommitLog<K, L, CountedSpace>,
-    asker: usize,
+    client: usize,
     texts: Vec<Vec<u8>>,
 ) -> Option<ReserveFault> {
-    match keeper.reserve_all(rt, asker, texts) {
+    match keeper.reserve_all(rt, client, texts) {
         Ok(places) => {
             keeper.release_all(rt, places);
             None
@@ -336,11 +336,11 @@ fn append_waiting<K: LogName, L: Log, R: Wait + AllocGlobal>(
     rt: &R,
     keeper: &CommitLog<K, L, CountedSpace>,
     nothing: &LogPosition<K, L>,
-    asker: usize,
+    client: usize,
     count: usize,
 ) -> Result<Option<ReserveFault>, Fail> {
     let kept = vec![in rt.alloc(); true; count]?;
-    match keeper.reserve_all(rt, asker, texts(rt, count)?) {
+    match keeper.reserve_all(rt, client, texts(rt, count)?) {
         Ok(places) => {
             let _ = keeper.append_chosen(rt, nothing, places, &kept);
             Ok(None)
@@ -371,10 +371,10 @@ fn expect_shares<K: LogName, L: Log, R: TestRuntime>(
     )?;
     assert!(rt; append_waiting(rt, &keeper, &nothing, 1, 4_097)? == Some(ReserveFault::Untaken));
     assert!(rt; append_waiting(rt, &keeper, &nothing, CLIENTS, 1)? == Some(ReserveFault::Crowded));
-    for asker in 1..4 {
-        assert!(rt; append_waiting(rt, &keeper, &nothing, asker, 4_096)? == None);
+    for client in 1..4 {
+        assert!(rt; append_waiting(rt, &keeper, &nothing, client, 4_096)? == None);
         assert!(rt;
-            reserve_fault(rt, &keeper, asker, text(rt, b"one")?) == Some(ReserveFault::Crowded)
+            reserve_fault(rt, &keeper, client, text(rt, b"one")?) == Some(ReserveFault::Crowded)
         );
     }
     assert!(rt; append_waiting(rt, &keeper, &nothing, 4, 4_095)? == Some(ReserveFault::Crowded));

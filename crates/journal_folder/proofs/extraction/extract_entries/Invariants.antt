@@ -7,5 +7,5 @@ use Rattle.journal_folder.proofs.extraction.extract_entries.Given as goal
 -- those extracted so far and those left are all
 abbrev pub invariant-loop-entry : goal.invariant-loop-entry
 invariant-loop-entry l =
-    map entry_of l.kept.items ++ filter (λ e. concerns l.extract.operator e.asker) (map entry_of (drop l.entry-index l.early))
-    ≡ filter (λ e. concerns l.extract.operator e.asker) (map entry_of l.early)
+    map entry_of l.kept.items ++ filter (λ e. concerns l.extract.operator e.client) (map entry_of (drop l.entry-index l.early))
+    ≡ filter (λ e. concerns l.extract.operator e.client) (map entry_of l.early)

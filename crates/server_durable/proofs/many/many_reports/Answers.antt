@@ -3,12 +3,12 @@ use Rattle.mds_script.specs.Input.{is_filled, lines}
 use Rattle.mds_request.specs.Request.{Request, request_of}
 use Rattle.server_state.specs.WholeRequest.{request_heard}
 use Rattle.server_durable.specs.Many.{AreAskedBy, IsRefusedWhole, reports_of}
-use Rattle.server_durable.proofs.Askers.{place_within, reports_asked}
+use Rattle.server_durable.proofs.Clients.{place_within, reports_asked}
 use Rattle.server_durable.proofs.Reports.{told_run, told_whole}
 use Rattle.server_durable.proofs.many.many_reports.Goals as goal
 
 pub answer_all-requires-clause-place : goal.answer_all-requires-clause-place
-answer_all-requires-clause-place g c = place_within g.K.HallName.configuration (request_heard c.args.heard.now) c.args.place c.requires.asker
+answer_all-requires-clause-place g c = place_within g.K.HallName.configuration (request_heard c.args.heard.now) c.args.place c.requires.client
 
 pub answer_all-requires-clause-asked : goal.answer_all-requires-clause-asked
 answer_all-requires-clause-asked g c =
@@ -16,7 +16,7 @@ answer_all-requires-clause-asked g c =
     let are : map request_of c.as_slice-lent.result.now ≡ reports_of request =
     ap (map request_of) c.as_slice-lent.ensures.value ∙ c.in-Ok.ensures.reports ∙ ap reports_of c.request-request.ensures in
     subst (AreAskedBy g.K.HallName.configuration c.args.place) (sym are)
-    (reports_asked g.K.HallName.configuration c.args.place request (filter is_filled (lines request.body)) c.requires.asker)
+    (reports_asked g.K.HallName.configuration c.args.place request (filter is_filled (lines request.body)) c.requires.client)
 
 pub returns-in-Err : goal.returns-in-Err
 returns-in-Err g c =

@@ -7,7 +7,7 @@ use Rattle.server_durable.proofs.many.record_texts.Given as goal
 -- the requests so far have their records, and there is room for those of all
 abbrev pub invariant-loop-request : goal.invariant-loop-request
 invariant-loop-request l = record {
-  records : map (λ text. text.items) l.texts.items ≡ map (record_by l.fn.asker) (map request_of (take l.request-index l.requests));
+  records : map (λ text. text.items) l.texts.items ≡ map (record_by l.fn.client) (map request_of (take l.request-index l.requests));
   each : length l.texts.items ≡ l.request-index;
   room : length l.requests ≤ vec_capacity l.texts;
 }

@@ -3,7 +3,7 @@ use Rattle.http.specs.declared.request.Parts.{Parts}
 use Rattle.server_app.specs.OperatorNames.{badges_view}
 use Rattle.server_state.specs.WholeRequest.{IsHeard, request_heard}
 use Rattle.server_routes.specs.declared.state.StateCall.TheVariants.{Call as OfProtocol, Reports, AuthorAsks, OperatorAsks}
-use Rattle.server_durable.proofs.Ways.{answered, asker_within, called_is, reporter_is, resolved}
+use Rattle.server_durable.proofs.Ways.{answered, client_within, called_is, reporter_is, resolved}
 use Rattle.server_durable.proofs.responding.respond.Goals as goal
 
 pub answer_call-requires-clause-resolved : goal.answer_call-requires-clause-resolved
@@ -15,8 +15,8 @@ answer_call-requires-clause-resolved g c =
     let found : c.call.result ≡ Ok (OfProtocol c.in-Ok-Call.call) = search rules in
     called_is own (request_heard heard) c.call.result known c.in-Ok-Call.call found
 
-pub many_reports-requires-clause-asker : goal.many_reports-requires-clause-asker
-many_reports-requires-clause-asker g c =
+pub many_reports-requires-clause-client : goal.many_reports-requires-clause-client
+many_reports-requires-clause-client g c =
     let own = g.K.HallName.configuration in
     let head = c.args.head.now in
     let heard = c.in-Ok.heard in
@@ -31,7 +31,7 @@ answer_operator-requires g c =
     let heard = c.in-Ok.heard in
     let known = resolved own heard head.parts head.actor c.call.result (c.in-Ok.ensures.head ∙ c.parts.ensures) head.asks (c.call.ensures ∙ head.calls) in
     let found : c.call.result ≡ Ok (OperatorAsks c.in-Ok-OperatorAsks.place c.in-Ok-OperatorAsks.question) = search rules in
-    asker_within own (request_heard heard) c.call.result known c.in-Ok-OperatorAsks.place c.in-Ok-OperatorAsks.question found
+    client_within own (request_heard heard) c.call.result known c.in-Ok-OperatorAsks.place c.in-Ok-OperatorAsks.question found
 
 pub returns-in-Ok-Call : goal.returns-in-Ok-Call
 returns-in-Ok-Call g c =

@@ -59,9 +59,9 @@ too_early : answered with_both ask_for_cap ≡ (error 404 (codes "not_found"), w
 unfolding documents
 too_early = refl
 
-by_stranger : answered with_both (ask 2000 (codes "nobody")) ≡ (error 401 (codes "token"), with_both)
+by_anonymous : answered with_both (ask 2000 (codes "nobody")) ≡ (error 401 (codes "token"), with_both)
 unfolding documents
-by_stranger = refl
+by_anonymous = refl
 
 without_geography : answered with_both publish_alone ≡ (error 409 (codes "no_geography"), with_both)
 unfolding documents
@@ -83,7 +83,7 @@ after_refusals : Run with_both (drop 6 history) after_history
 after_refusals = (after_first_vehicle, stepped publish published, (after_history, stepped other_report by_other, (after_history, stepped question asked, refl)))
 
 after_drafts : Run with_both (drop 3 history) after_history
-after_drafts = (with_both, stepped ask_for_cap too_early, (with_both, stepped (ask 2000 (codes "nobody")) by_stranger, (with_both, stepped publish_alone without_geography, after_refusals)))
+after_drafts = (with_both, stepped ask_for_cap too_early, (with_both, stepped (ask 2000 (codes "nobody")) by_anonymous, (with_both, stepped publish_alone without_geography, after_refusals)))
 
 pub returns : goal.returns
 returns c =

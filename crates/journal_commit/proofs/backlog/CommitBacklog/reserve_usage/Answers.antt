@@ -8,4 +8,4 @@ take-requires-clause-bounded g c =
     let each = c.args.self.now.shares.each.items in
     let known = c.has_share.ensures.known c.if-not-has_share.false in
     let shared = c.has_share.ensures.shared c.if-not-has_share.false in
-    omega (arith, c.args.self.now.used, bytes_held each c.args.asker c.args.more known, bytes_in_le (holding each c.args.asker c.args.more) shared)
+    omega (arith, c.args.self.now.used, bytes_held each c.args.client c.args.more known, bytes_in_le (holding each c.args.client c.args.more) shared)

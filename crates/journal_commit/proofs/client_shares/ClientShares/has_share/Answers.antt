@@ -8,7 +8,7 @@ use Rattle.journal_commit.proofs.client_shares.ClientShares.has_share.Goals as g
 pub usage-own-requires-clause-texts : goal.usage-own-requires-clause-texts
 usage-own-requires-clause-texts c =
     let each = c.args.self.now.each.items in
-    let i = c.args.asker in
+    let i = c.args.client in
     let there : i < length each = omega arith in
     let read = share_read each i c.index.result.now there c.index.ensures in
     omega (arith, ap (λ (s : ClientShare). (usage_of s).texts) read, texts_fit each i nobody there c.args.self.now.shared)
@@ -16,24 +16,24 @@ usage-own-requires-clause-texts c =
 pub usage-own-requires-clause-bytes : goal.usage-own-requires-clause-bytes
 usage-own-requires-clause-bytes c =
     let each = c.args.self.now.each.items in
-    let i = c.args.asker in
+    let i = c.args.client in
     let there : i < length each = omega arith in
     let read = share_read each i c.index.result.now there c.index.ensures in
     omega (arith, ap (λ (s : ClientShare). (usage_of s).bytes) read, bytes_fit each i nobody there c.args.self.now.shared)
 
 pub count_usage-before_without-requires : goal.count_usage-before_without-requires
 count_usage-before_without-requires c =
-    rw c.deref.ensures.value (front_shared c.args.self.now.each.items c.args.asker c.args.self.now.shared)
+    rw c.deref.ensures.value (front_shared c.args.self.now.each.items c.args.client c.args.self.now.shared)
 
 pub count_usage-after_without-requires : goal.count_usage-after_without-requires
 count_usage-after_without-requires c =
     let each = c.args.self.now.each.items in
-    rw (c.deref-2.ensures.value, rest_all each (c.args.asker + 1)) (rest_shared each (c.args.asker + 1) c.args.self.now.shared)
+    rw (c.deref-2.ensures.value, rest_all each (c.args.client + 1)) (rest_shared each (c.args.client + 1) c.args.self.now.shared)
 
 pub overflow_add-all : goal.overflow_add-all
 overflow_add-all c =
     let each = c.args.self.now.each.items in
-    let i = c.args.asker in
+    let i = c.args.client in
     let there : i < length each = omega arith in
     let read = share_read each i c.index.result.now there c.index.ensures in
     let own = ap (λ (u : Usage). u.texts) c.usage-own.ensures ∙ ap (λ (s : ClientShare). (usage_of s).texts) read in
@@ -45,7 +45,7 @@ overflow_add-all c =
 pub overflow_add-all-2 : goal.overflow_add-all-2
 overflow_add-all-2 c =
     let each = c.args.self.now.each.items in
-    let i = c.args.asker in
+    let i = c.args.client in
     let there : i < length each = omega arith in
     let read = share_read each i c.index.result.now there c.index.ensures in
     let own = ap (λ (u : Usage). u.texts) c.usage-own.ensures ∙ ap (λ (s : ClientShare). (usage_of s).texts) read in
@@ -57,7 +57,7 @@ overflow_add-all-2 c =
 pub overflow_add-all-3 : goal.overflow_add-all-3
 overflow_add-all-3 c =
     let each = c.args.self.now.each.items in
-    let i = c.args.asker in
+    let i = c.args.client in
     let there : i < length each = omega arith in
     let read = share_read each i c.index.result.now there c.index.ensures in
     let own = ap (λ (u : Usage). u.bytes) c.usage-own.ensures ∙ ap (λ (s : ClientShare). (usage_of s).bytes) read in
@@ -69,7 +69,7 @@ overflow_add-all-3 c =
 pub overflow_add-all-4 : goal.overflow_add-all-4
 overflow_add-all-4 c =
     let each = c.args.self.now.each.items in
-    let i = c.args.asker in
+    let i = c.args.client in
     let there : i < length each = omega arith in
     let read = share_read each i c.index.result.now there c.index.ensures in
     let own = ap (λ (u : Usage). u.bytes) c.usage-own.ensures ∙ ap (λ (s : ClientShare). (usage_of s).bytes) read in
@@ -81,7 +81,7 @@ overflow_add-all-4 c =
 pub overflow_add-before_without : goal.overflow_add-before_without
 overflow_add-before_without c =
     let each = c.args.self.now.each.items in
-    let i = c.args.asker in
+    let i = c.args.client in
     let there : i < length each = omega arith in
     let read = share_read each i c.index.result.now there c.index.ensures in
     let own = ap (λ (u : Usage). u.texts) c.usage-own.ensures ∙ ap (λ (s : ClientShare). (usage_of s).texts) read in
@@ -93,7 +93,7 @@ overflow_add-before_without c =
 pub returns-clause-shared : goal.returns-clause-shared
 returns-clause-shared c = λ is.
     let each = c.args.self.now.each.items in
-    let i = c.args.asker in
+    let i = c.args.client in
     let there : i < length each = omega arith in
     let read = share_read each i c.index.result.now there c.index.ensures in
     let own_texts = ap (λ (u : Usage). u.texts) c.usage-own.ensures ∙ ap (λ (s : ClientShare). (usage_of s).texts) read in

@@ -6,12 +6,12 @@ use Rattle.journal_commit.proofs.client_shares.ClientShares.take_waiting_of.Goal
 pub invariant_of-self : goal.invariant_of-self
 invariant_of-self c =
     let each = c.args.self.now.each.items in
-    let there = share_read each c.args.asker c.index_mut-share.result.now c.requires c.index_mut-share.ensures.value in
+    let there = share_read each c.args.client c.index_mut-share.result.now c.requires c.index_mut-share.ensures.value in
     let held_texts = ap (λ (s : ClientShare). s.held.texts) there in
     let held_bytes = ap (λ (s : ClientShare). s.held.bytes) there in
     let texts = ap (λ (s : ClientShare). s.waiting.texts) there in
     let bytes = ap (λ (s : ClientShare). s.waiting.bytes) there in
     record {
       shared =
-          less_shared each c.args.asker _ nobody c.requires (omega (arith, held_texts, texts)) (omega (arith, held_bytes, bytes)) c.args.self.now.shared;
+          less_shared each c.args.client _ nobody c.requires (omega (arith, held_texts, texts)) (omega (arith, held_bytes, bytes)) c.args.self.now.shared;
     }

@@ -5,7 +5,7 @@ use Rattle.mds_request.specs.Request.{Request, request_of}
 use Rattle.mds_request.specs.Reply.{Reply}
 use Rattle.mds_desk.specs.Desk.{state_of}
 use Rattle.server_durable.specs.Many.{IsAnsweredInPart}
-use Rattle.server_durable.proofs.Askers.{front_asked, rest_asked}
+use Rattle.server_durable.proofs.Clients.{front_asked, rest_asked}
 use Rattle.server_durable.proofs.Reports.{Reached, all_answered, reached_more, reached_none, rest_is, some_answered_of}
 use Rattle.server_durable.proofs.durable_hall.DurableHall.carry_out_all.Goals as goal
 

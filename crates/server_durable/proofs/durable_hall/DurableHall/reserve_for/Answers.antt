@@ -1,14 +1,14 @@
 use Rattle.std.proofs.Common.{◌≡◌, length, Some, sym, ap, subst, ◌∙◌}
-use Rattle.journal_entry.specs.Requests.{asker_at}
+use Rattle.journal_entry.specs.Requests.{client_at}
 use Rattle.mds_request.specs.Configuration.{Configuration, configuration}
 use Rattle.server_state.specs.Client.{IsWithin}
 use Rattle.server_state.specs.WholeRequest.{request_heard}
 use Rattle.server_durable.specs.Records.{caller_of, record_by}
-use Rattle.server_durable.proofs.Askers.{caller_within, record_of_call}
+use Rattle.server_durable.proofs.Clients.{caller_within, record_of_call}
 use Rattle.server_durable.proofs.durable_hall.DurableHall.reserve_for.Goals as goal
 
-pub client_of-asker-requires : goal.client_of-asker-requires
-client_of-asker-requires g c =
+pub client_of-client-requires : goal.client_of-client-requires
+client_of-client-requires g c =
     let shared : configuration c.deref.result.now ≡ g.K.HallName.configuration = ap configuration c.deref.ensures ∙ c.in_ok-config.ensures ∙ c.args.self.now.hall.configured in
     subst (λ (own : Configuration). IsWithin (length own.operators) (caller_of c.args.call.now)) (sym shared)
     (caller_within g.K.HallName.configuration (request_heard c.args.heard.now) c.args.call.now c.requires)
@@ -17,8 +17,8 @@ pub returns-in-Ok : goal.returns-in-Ok
 returns-in-Ok g c =
     let own = g.K.HallName.configuration in
     let request = request_heard c.args.heard.now in
-    let asker = c.client_of-asker.result in
+    let client = c.client_of-client.result in
     let shared : configuration c.deref.result.now ≡ own = ap configuration c.deref.ensures ∙ c.in_ok-config.ensures ∙ c.args.self.now.hall.configured in
-    record_of_call own request c.args.call.now asker c.in-Ok.place.text.items c.requires
-    (subst (λ (cfg : Configuration). asker_at cfg (caller_of c.args.call.now) ≡ Some asker) shared c.client_of-asker.ensures)
-    (ap (λ text. text.items) c.in-Ok.ensures ∙ c.in_ok-text.ensures ∙ ap (record_by asker) c.request-request.ensures)
+    record_of_call own request c.args.call.now client c.in-Ok.place.text.items c.requires
+    (subst (λ (cfg : Configuration). client_at cfg (caller_of c.args.call.now) ≡ Some client) shared c.client_of-client.ensures)
+    (ap (λ text. text.items) c.in-Ok.ensures ∙ c.in_ok-text.ensures ∙ ap (record_by client) c.request-request.ensures)

@@ -1,7 +1,7 @@
 -- The client that makes a call, and the records of requests by client.
 use Rattle.std.proofs.Common.{◌≡◌, ◌<◌, ◌+◌, ℕ, zero, suc, List, [], ◌∷◌, ◌++◌, length, map, take, drop, get_or, Option, Some, None, option_map, Ok, refl, sym, ap, subst, ◌∙◌}
 use Rattle.std.proofs.lemmas.List.{map-append}
-use Rattle.journal_entry.specs.Requests.{asked_by, asker_at}
+use Rattle.journal_entry.specs.Requests.{asked_by, client_at}
 use Rattle.journal_entry.specs.declared.entry.EntryClient.{EntryClient}
 use Rattle.journal_entry.specs.declared.entry.EntryClient.TheVariants.{Operator as OperatorBy}
 use Rattle.mds_request.specs.Call.{call_of}
@@ -19,9 +19,9 @@ use Rattle.server_durable.specs.Records.{IsRecordOf, caller_of, record_by}
 use Rattle.server_durable.proofs.Accepted.{taken_more}
 
 -- an operator in a record, by its identifier
-pub asker_named : (operator : Option Named) (id : List ℕ) → option_map (λ o. o.id) operator ≡ Some id → option_map (λ o. OperatorBy o.id) operator ≡ Some (OperatorBy id)
-asker_named None id is = absurd cc
-asker_named (Some operator) id is = ap (option_map OperatorBy) is
+pub client_named : (operator : Option Named) (id : List ℕ) → option_map (λ o. o.id) operator ≡ Some id → option_map (λ o. OperatorBy o.id) operator ≡ Some (OperatorBy id)
+client_named None id is = absurd cc
+client_named (Some operator) id is = ap (option_map OperatorBy) is
 
 caller_is : (own : Call) → caller own ≡ caller_of own
 caller_is (call.Author what) = refl
@@ -40,28 +40,28 @@ module _ (configuration : Configuration) (request : Request) where
   place_within place is = subst (IsWithin (length configuration.operators)) is (is_within configuration request.token)
 
   -- the record names the client
-  pub record_of : (actor : Actor) (asker : EntryClient) (text : List ℕ) → actor_of configuration request.token ≡ actor → asker_at configuration actor ≡ Some asker
-      → text ≡ record_by asker request → IsRecordOf configuration request text
-  record_of actor asker text is known text_is =
+  pub record_of : (actor : Actor) (client : EntryClient) (text : List ℕ) → actor_of configuration request.token ≡ actor → client_at configuration actor ≡ Some client
+      → text ≡ record_by client request → IsRecordOf configuration request text
+  record_of actor client text is known text_is =
       record {
-        entry = asked_by request asker;
-        is_its = ap (λ who. option_map (asked_by request) (asker_at configuration who)) is ∙ ap (option_map (asked_by request)) known;
+        entry = asked_by request client;
+        is_its = ap (λ who. option_map (asked_by request) (client_at configuration who)) is ∙ ap (option_map (asked_by request)) known;
         text_is = text_is;
       }
 
   -- the call says which client
-  pub record_of_call : (own : Call) (asker : EntryClient) (text : List ℕ) → call_of configuration request ≡ Ok own → asker_at configuration (caller_of own) ≡ Some asker
-      → text ≡ record_by asker request → IsRecordOf configuration request text
-  record_of_call own asker text is = record_of (caller_of own) asker text (asks own is)
+  pub record_of_call : (own : Call) (client : EntryClient) (text : List ℕ) → call_of configuration request ≡ Ok own → client_at configuration (caller_of own) ≡ Some client
+      → text ≡ record_by client request → IsRecordOf configuration request text
+  record_of_call own client text is = record_of (caller_of own) client text (asks own is)
 
 module _ (configuration : Configuration) (place : ℕ) where
   -- the records of an operator's requests
-  pub records_of : (asker : EntryClient) (requests : List Request) → asker_at configuration (Operator place) ≡ Some asker → AreAskedBy configuration place requests
-      → AreRecordsOf configuration requests (map (record_by asker) requests)
-  records_of asker [] known asked = tt
-  records_of asker (request ∷ requests) known asked = (
-    record_of configuration request (Operator place) asker (record_by asker request) asked.0 known refl,
-    records_of asker requests known asked.1,
+  pub records_of : (client : EntryClient) (requests : List Request) → client_at configuration (Operator place) ≡ Some client → AreAskedBy configuration place requests
+      → AreRecordsOf configuration requests (map (record_by client) requests)
+  records_of client [] known asked = tt
+  records_of client (request ∷ requests) known asked = (
+    record_of configuration request (Operator place) client (record_by client request) asked.0 known refl,
+    records_of client requests known asked.1,
   )
 
   -- the reports of an operator's request are requests of that operator
