@@ -27,8 +27,8 @@ pub record DeskState : Type 0 where
 abbrev pub state_of : {K : Type 0} {g : Ghosts K} → Desk K g → DeskState
 state_of d =
     record {
-      configuration = configuration d.seat.config.value;
-      place = d.seat.place;
+      configuration = configuration d.context.config.value;
+      place = d.context.place;
       known = d.pane;
       rows = d.book.rows;
     }

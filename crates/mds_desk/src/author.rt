@@ -23,7 +23,7 @@ pub struct AuthorRoom<K: OpeningName> {
     routes: Arc<Routes>,
     drafts: Drafts,
     publisher: Publisher<K>,
-    shelf: SharedCache<K>,
+    cache: SharedCache<K>,
 }
 
 impl<K: OpeningName> AuthorRoom<K> {
@@ -48,7 +48,7 @@ impl<K: OpeningName> AuthorRoom<K> {
         config: Arc<Config>,
         routes: Arc<Routes>,
         publisher: Publisher<K>,
-        shelf: SharedCache<K>,
+        cache: SharedCache<K>,
     ) -> AuthorRoom<K>
         requires { publisher ≡ record { publications = []; is_open = true } }
         ensures { room_of result ≡ new_room (configuration config.value) }
@@ -59,7 +59,7 @@ impl<K: OpeningName> AuthorRoom<K> {
             routes,
             drafts: Drafts::new(alloc),
             publisher,
-            shelf,
+            cache,
         }
     }
 
@@ -140,7 +140,7 @@ impl<K: OpeningName> AuthorRoom<K> {
         ensures asked { (leave.new ≡ leave.old) ⊎ (IsSome result.1 ⊎ (result.0 ≡ refused NoMemory)) }
     {
         let asked = author_key(self.publisher.catalogue(), call);
-        match self.shelf.find(&asked, &self.publisher.note()) {
+        match self.cache.find(&asked, &self.publisher.note()) {
             Some(body) => (SharedReply::from_cached(body), None),
             None => self.perform(rt, asked, call, request, leave),
         }
@@ -171,7 +171,7 @@ impl<K: OpeningName> AuthorRoom<K> {
         match author_step(self.alloc, &mut self.drafts, catalogue, call, request) {
             AuthorAct::Answer(reply) => {
                 let note = self.publisher.note();
-                (self.shelf.answer(self.alloc, asked, &note, reply), None)
+                (self.cache.answer(self.alloc, asked, &note, reply), None)
             }
             AuthorAct::Publish(batch, reply) => {
                 let Ok(share) = Arc::try_clone(&batch) else {
@@ -183,7 +183,7 @@ impl<K: OpeningName> AuthorRoom<K> {
                 match self.publisher.publish(rt, share) {
                     Ok(note) => {
                         self.drafts.take_out(&batch);
-                        self.shelf.advance_to(&note);
+                        self.cache.advance_to(&note);
                         (SharedReply::from(reply), Some(note))
                     }
                     Err(_) => (SharedReply::from(Code::NoMemory), None),
@@ -240,7 +240,7 @@ impl<K: OpeningName> AuthorRoom<K> {
             routes: _routes,
             drafts: _drafts,
             publisher,
-            shelf: _shelf,
+            cache: _shelf,
         } = self;
         publisher.finish(rt);
     }

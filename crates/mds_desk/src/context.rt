@@ -16,7 +16,7 @@ pub(crate) struct DeskContext<K: OpeningName> {
     pub(crate) alloc: Global,
     pub(crate) config: Arc<Config>,
     pub(crate) routes: Arc<Routes>,
-    pub(crate) shelf: SharedCache<K>,
+    pub(crate) cache: SharedCache<K>,
     pub(crate) place: usize,
     ghost within: { place < length (configuration config.value).operators },
 }

@@ -26,10 +26,10 @@ use std::alloc::{AllocError, Global};
 /// the operator's place in it, the publications that were seen or learnt, and the operator's rows.
 #[derive(Drop)]
 pub struct Desk<K: OpeningName> {
-    seat: DeskContext<K>,
+    context: DeskContext<K>,
     book: Book,
     pane: Pane<K>,
-    ghost limit: { Some book.limit ≡ option_map (λ o. o.limit) (slice_get (configuration seat.config.value).operators seat.place) },
+    ghost limit: { Some book.limit ≡ option_map (λ o. o.limit) (slice_get (configuration context.config.value).operators context.place) },
     // the book's index is right for all publications that were seen or learnt
     ghost fits: { Fits (lasting_in pane) book } by { fits_prop (lasting_in pane) book },
 }
@@ -59,13 +59,13 @@ impl<K: OpeningName> Desk<K> {
     ghost use Rattle.mds_desk.specs.Desk.{state_of, new_desk, TakesTurn, TakesRun, Learns};
 
     /// The desk of the operator at this place, which knows no publications and has no vehicles.
-    pub(crate) fn new(seat: DeskContext<K>, pane: Pane<K>) -> Desk<K>
+    pub(crate) fn new(context: DeskContext<K>, pane: Pane<K>) -> Desk<K>
         requires { pane ≡ [] }
-        ensures { state_of result ≡ new_desk (configuration seat.config.value) seat.place }
+        ensures { state_of result ≡ new_desk (configuration context.config.value) context.place }
     {
-        let limit = seat.config.operators()[seat.place].limit as u32;
-        let book = Book::new(seat.alloc, limit);
-        Desk { seat, book, pane }
+        let limit = context.config.operators()[context.place].limit as u32;
+        let book = Book::new(context.alloc, limit);
+        Desk { context, book, pane }
     }
 
     pub(crate) fn pane(&self) -> &Pane<K>
@@ -88,7 +88,7 @@ impl<K: OpeningName> Desk<K> {
         requires { E.may_judge }
         ensures { TakesTurn (state_of self.old) (request_of request.now) result (state_of self.new) }
     {
-        match self.seat.call(request) {
+        match self.context.call(request) {
             Ok(call) => self.carry_out(request, &call, gate, evaluator),
             Err(code) => SharedReply::from(code),
         }
@@ -137,7 +137,7 @@ impl<K: OpeningName> Desk<K> {
         ensures run { IfOk result (λ replies. TakesRun (state_of self.old) (map request_of requests.now) replies.items (state_of self.new)) }
         ensures unchanged { OnErr result (self.new ≡ self.old) }
     {
-        let mut answers = Vec::with_capacity(self.seat.alloc, requests.len())?;
+        let mut answers = Vec::with_capacity(self.context.alloc, requests.len())?;
         for request in requests {
             let answer = self.answer(request, gate, evaluator);
             answers.push_reserved(answer);
@@ -179,17 +179,17 @@ impl<K: OpeningName> Desk<K> {
         ensures told { IfOk result.1 (T.tells telling.now (state_of result.0).known) }
         ensures refused { IfErr result.1 (λ code. (code ≡ NoMemory) ⊎ ((code ≡ NoSnapshot) × (state_of result.0 ≡ state_of self))) }
     {
-        let Self { seat, book, pane } = self;
+        let Self { context, book, pane } = self;
         match pane.look() {
             Ok(look) => {
-                let told = query_look(seat.alloc, &look, telling);
+                let told = query_look(context.alloc, &look, telling);
                 let pane = look.leave();
-                let desk = Desk { seat, book, pane };
+                let desk = Desk { context, book, pane };
                 (desk, told)
             }
             Err(none) => {
                 let pane = none.pane;
-                let desk = Desk { seat, book, pane };
+                let desk = Desk { context, book, pane };
                 (desk, Err(Code::NoSnapshot))
             }
         }
@@ -207,16 +207,16 @@ impl<K: OpeningName> Desk<K> {
         ensures { TakesTurn (state_of self) (request_of request.now) result.1 (state_of result.0) }
     {
         let Self {
-            seat,
+            context,
             mut book,
             pane,
         } = self;
         match pane.look() {
             Ok(look) => {
                 gate.held();
-                let answer = answer_call(&seat, &mut book, &look, call, request, evaluator);
+                let answer = answer_call(&context, &mut book, &look, call, request, evaluator);
                 let desk = Desk {
-                    seat,
+                    context,
                     book,
                     pane: look.leave(),
                 };
@@ -224,7 +224,7 @@ impl<K: OpeningName> Desk<K> {
             }
             Err(none) => {
                 let desk = Desk {
-                    seat,
+                    context,
                     book,
                     pane: none.pane,
                 };

@@ -19,7 +19,7 @@ fn desks<K: OpeningName>(
     alloc: Global,
     config: &Arc<Config>,
     routes: &Arc<Routes>,
-    shelf: &SharedCache<K>,
+    cache: &SharedCache<K>,
     panes: Vec<Pane<K>>,
 ) -> Result<Vec<Desk<K>>, AllocError>
     requires { panes.items ≡ replicate (length (configuration config.now.value).operators) [] }
@@ -30,15 +30,15 @@ fn desks<K: OpeningName>(
         let place = desks.len();
         let config = Arc::try_clone(config)?;
         let routes = Arc::try_clone(routes)?;
-        let shelf = shelf.new_ref()?;
-        let seat = DeskContext {
+        let cache = cache.new_ref()?;
+        let context = DeskContext {
             alloc,
             config,
             routes,
-            shelf,
+            cache,
             place,
         };
-        desks.push_reserved(Desk::new(seat, pane));
+        desks.push_reserved(Desk::new(context, pane));
     }
     Ok(desks)
 }
@@ -66,13 +66,13 @@ pub fn furnish<K: OpeningName, R: Wait>(
         return Err(OpenFault::NoMemory);
     };
     let (publisher, panes) = open::<K, R>(rt, alloc, blank, config.operators().len())?;
-    let Ok(shelf) = SharedCache::new(alloc, publisher.note()) else {
+    let Ok(cache) = SharedCache::new(alloc, publisher.note()) else {
         publisher.finish(rt);
         return Err(OpenFault::NoMemory);
     };
-    match desks(alloc, &config, &routes, &shelf, panes) {
+    match desks(alloc, &config, &routes, &cache, panes) {
         Ok(desks) => {
-            let room = AuthorRoom::new(alloc, config, routes, publisher, shelf);
+            let room = AuthorRoom::new(alloc, config, routes, publisher, cache);
             Ok((room, desks))
         }
         Err(_) => {

@@ -20,7 +20,7 @@ use mds_world::operator_step;
 /// Answers a call of the desk's operator: with the cached body, or with a reply of its own, which is cached from then
 /// on where it is about what is published.
 pub(crate) fn answer_call<K: OpeningName, E: Evaluator<Catalogue>>(
-    seat: &DeskContext<K>,
+    context: &DeskContext<K>,
     book: &mut Book,
     look: &Look<K>,
     call: &OperatorCall,
@@ -29,29 +29,29 @@ pub(crate) fn answer_call<K: OpeningName, E: Evaluator<Catalogue>>(
 ) -> SharedReply
     requires ready { E.may_judge }
     requires limit { Some book.old.limit
-        ≡ option_map (λ o. o.limit) (slice_get (configuration seat.now.config.value).operators seat.now.place) }
+        ≡ option_map (λ o. o.limit) (slice_get (configuration context.now.config.value).operators context.now.place) }
     requires fits { Fits (lasting_in look.now) book.old }
-    ensures answer { IfSome (slice_get (configuration seat.now.config.value).operators seat.now.place) (λ o.
-        Gives (Unit {0}) book.old.rows (operator_does (configuration seat.now.config.value).zone o look.now book.old.rows call.now (request_of request.now))
+    ensures answer { IfSome (slice_get (configuration context.now.config.value).operators context.now.place) (λ o.
+        Gives (Unit {0}) book.old.rows (operator_does (configuration context.now.config.value).zone o look.now book.old.rows call.now (request_of request.now))
         result book.new.rows) }
     ensures limit { book.new.limit ≡ book.old.limit }
     ensures fits { Fits (lasting_in look.now) book.new }
 {
     let catalogue = look.catalogue();
-    let asked = operator_key(seat.alloc, catalogue, seat.operator(), call);
+    let asked = operator_key(context.alloc, catalogue, context.operator(), call);
     let note = look.note();
-    if let Some(body) = seat.shelf.find(&asked, &note) {
+    if let Some(body) = context.cache.find(&asked, &note) {
         return SharedReply::from_cached(body);
     }
     let reply = operator_step(
-        seat.alloc,
+        context.alloc,
         book,
         catalogue,
-        &seat.config,
-        seat.place,
+        &context.config,
+        context.place,
         call,
         request,
         evaluator,
     );
-    seat.shelf.answer(seat.alloc, asked, &note, reply)
+    context.cache.answer(context.alloc, asked, &note, reply)
 }

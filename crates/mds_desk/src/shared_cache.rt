@@ -23,7 +23,7 @@ const LOCK_TRIES: usize = 4;
 /// cached.
 #[derive(Drop)]
 pub struct SharedCache<K: OpeningName> {
-    shelf: Arc<Mutex<ResponseCache<K>>>,
+    cache: Arc<Mutex<ResponseCache<K>>>,
 }
 
 impl<K: OpeningName> Model for SharedCache<K> {
@@ -39,8 +39,8 @@ impl<K: OpeningName> SharedCache<K> {
     ///
     /// Out of memory.
     pub fn new(alloc: Global, note: Note<K>) -> Result<SharedCache<K>, AllocError> {
-        let shelf = Arc::new(alloc, Mutex::new(ResponseCache::new(alloc, note)))?;
-        Ok(SharedCache { shelf })
+        let cache = Arc::new(alloc, Mutex::new(ResponseCache::new(alloc, note)))?;
+        Ok(SharedCache { cache })
     }
 
     /// Another reference to the cache.
@@ -49,15 +49,15 @@ impl<K: OpeningName> SharedCache<K> {
     ///
     /// No further reference could be made.
     pub fn new_ref(&self) -> Result<SharedCache<K>, AllocError> {
-        let shelf = Arc::try_clone(&self.shelf)?;
-        Ok(SharedCache { shelf })
+        let cache = Arc::try_clone(&self.cache)?;
+        Ok(SharedCache { cache })
     }
 
     /// The locked cache; `None` where another thread holds the lock at each try.
     fn lock_or_skip(&self) -> Option<MutexGuard<'_, ResponseCache<K>>> {
         for _ in 0..LOCK_TRIES {
-            if let Some(shelf) = self.shelf.try_lock() {
-                return Some(shelf);
+            if let Some(cache) = self.cache.try_lock() {
+                return Some(cache);
             }
             yield_now();
         }
@@ -71,14 +71,14 @@ impl<K: OpeningName> SharedCache<K> {
         let Some(key) = asked else {
             return None;
         };
-        let shelf = self.lock_or_skip()?;
-        shelf.find(key, note)
+        let cache = self.lock_or_skip()?;
+        cache.find(key, note)
     }
 
     /// Empties the cache for a later front, unless it stays locked.
     pub fn advance_to(&self, note: &Note<K>) {
-        if let Some(mut shelf) = self.lock_or_skip() {
-            shelf.advance_to(note);
+        if let Some(mut cache) = self.lock_or_skip() {
+            cache.advance_to(note);
         }
     }
 
@@ -127,8 +127,8 @@ impl<K: OpeningName> SharedCache<K> {
     fn store_body(&self, note: &Note<K>, key: CacheKey, body: Bytes)
         requires { IsBodyOf note.now key body }
     {
-        if let Some(mut shelf) = self.lock_or_skip() {
-            shelf.store_body(note, key, body);
+        if let Some(mut cache) = self.lock_or_skip() {
+            cache.store_body(note, key, body);
         }
     }
 }

@@ -14,11 +14,11 @@ use Rattle.mds_desk.proofs.operator.answer_call.Goals as goal
 
 pub returns-in-Some : goal.returns-in-Some
 returns-in-Some g c =
-    let configured = configuration c.args.seat.now.config.value in
+    let configured = configuration c.args.context.now.config.value in
     let asked = c.operator_key-asked.result in
     record {
       answer = operator_found configured.zone c.args.look.now c.operator.result c.args.call.now c.args.book.now.rows (request_of c.args.request.now)
-          (slice_get configured.operators c.args.seat.now.place) asked c.in-Some.body c.from_cached.result c.operator.ensures
+          (slice_get configured.operators c.args.context.now.place) asked c.in-Some.body c.from_cached.result c.operator.ensures
           (subst (λ ps. IfSome asked (AnswersOperator ps c.operator.result c.args.call.now)) c.catalogue-catalogue.ensures.publications c.operator_key-asked.ensures)
           (subst (λ ps. IsFound ps asked c.in-Some.body) c.note-note.ensures c.in-Some.ensures) c.from_cached.ensures;
       limit = cc;
@@ -35,15 +35,15 @@ operator_step-reply-requires-clause-fits g c =
 
 pub answer-requires : goal.answer-requires
 answer-requires g c =
-    let configured = configuration c.args.seat.now.config.value in
+    let configured = configuration c.args.context.now.config.value in
     let asked = c.operator_key-asked.result in
     let call = c.args.call.now in
-    let place = c.args.seat.now.place in
+    let place = c.args.context.now.place in
     let rows = c.args.book.now.rows in
     let request = request_of c.args.request.now in
     let reply = c.operator_step-reply.result in
     let after = c.operator_step-reply.new.book.rows in
-    let same : c.deref.result.now ≡ c.args.seat.now.config.value = cc in
+    let same : c.deref.result.now ≡ c.args.context.now.config.value = cc in
     let made : IfSome (slice_get configured.operators place) (λ o. Gives (Unit {0}) rows (operator_does configured.zone o (publications_of c.catalogue-catalogue.result.now) rows call request) reply after) =
     subst (λ (config : Config). IfSome (slice_get (configuration config).operators place) (λ o. Gives (Unit {0}) rows (operator_does (configuration config).zone o (publications_of c.catalogue-catalogue.result.now) rows call request) reply after)) same
     c.operator_step-reply.ensures.answer in
@@ -55,15 +55,15 @@ answer-requires g c =
 
 pub returns : goal.returns
 returns g c =
-    let configured = configuration c.args.seat.now.config.value in
+    let configured = configuration c.args.context.now.config.value in
     let asked = c.operator_key-asked.result in
     let call = c.args.call.now in
-    let place = c.args.seat.now.place in
+    let place = c.args.context.now.place in
     let rows = c.args.book.now.rows in
     let request = request_of c.args.request.now in
     let reply = c.operator_step-reply.result in
     let after = c.operator_step-reply.new.book.rows in
-    let same : c.deref.result.now ≡ c.args.seat.now.config.value = cc in
+    let same : c.deref.result.now ≡ c.args.context.now.config.value = cc in
     let made : IfSome (slice_get configured.operators place) (λ o. Gives (Unit {0}) rows (operator_does configured.zone o (publications_of c.catalogue-catalogue.result.now) rows call request) reply after) =
     subst (λ (config : Config). IfSome (slice_get (configuration config).operators place) (λ o. Gives (Unit {0}) rows (operator_does (configuration config).zone o (publications_of c.catalogue-catalogue.result.now) rows call request) reply after)) same
     c.operator_step-reply.ensures.answer in

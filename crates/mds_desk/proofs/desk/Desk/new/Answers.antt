@@ -13,9 +13,9 @@ invariant_of-result-clause-fits g c = c.new-book.ensures.fits (lasting_in c.args
 pub invariant_of-result-clause-limit : goal.invariant_of-result-clause-limit
 invariant_of-result-clause-limit g c =
     let found = c.operators.result.now in
-    let place = c.args.seat.place in
-    let read = c.index-operators-seat.result in
-    let within : place < length found = omega (arith, c.args.seat.within, ap length c.operators.ensures.all, ap (λ d. length (map operator d.operators.items)) c.deref.ensures, length-map found operator) in
+    let place = c.args.context.place in
+    let read = c.index-operators-context.result in
+    let within : place < length found = omega (arith, c.args.context.within, ap length c.operators.ensures.all, ap (λ d. length (map operator d.operators.items)) c.deref.ensures, length-map found operator) in
     ap Some c.new-book.ensures.limit
     ∙ sym (ap (λ o. option_map (λ n. n.limit) (option_map operator o)) (slice_get-get_or found place read within))
     ∙ sym (ap (option_map (λ n. n.limit)) (slice_get-map operator found place))

@@ -14,7 +14,7 @@ pub returns-in-Ok : goal.returns-in-Ok
 returns-in-Ok g c =
     let d = c.args.self in
     let left : c.leave.result ≡ c.in-Ok.look = cc in
-    looked (configuration d.seat.config.value) d.seat.place d.pane d.book.rows (request_of c.args.request.now) c.args.call.now c.requires.resolved c.in-Ok.look c.leave.result
+    looked (configuration d.context.config.value) d.context.place d.pane d.book.rows (request_of c.args.request.now) c.args.call.now c.requires.resolved c.in-Ok.look c.leave.result
     c.answer_call-answer.result c.answer_call-answer.new.book.rows
     (subst (IsPrefix d.pane) (sym left) c.in-Ok.ensures) (sym left) c.answer_call-answer.ensures.answer
 
@@ -22,4 +22,4 @@ returns-in-Ok g c =
 pub returns-in-Err : goal.returns-in-Err
 returns-in-Err g c =
     let d = c.args.self in
-    not_looked (configuration d.seat.config.value) d.seat.place d.pane d.book.rows (request_of c.args.request.now) c.in-Err.none.pane c.from.result c.in-Err.ensures c.from.ensures
+    not_looked (configuration d.context.config.value) d.context.place d.pane d.book.rows (request_of c.args.request.now) c.in-Err.none.pane c.from.result c.in-Err.ensures c.from.ensures

@@ -11,7 +11,7 @@ push_flags-requires-clause-room g c =
     let requests = map request_of c.args.requests.now in
     let replies = c.in-Ok-run.answers.items in
     let many : length replies ≡ length requests =
-    as_many_told (state_of c.args.desk.now.desk) (state_of c.answer_all-run.new.self.desk) _ requests replies c.args.desk.now.desk.seat.within c.in-Ok-run.ensures.run in
+    as_many_told (state_of c.args.desk.now.desk) (state_of c.answer_all-run.new.self.desk) _ requests replies c.args.desk.now.desk.context.within c.in-Ok-run.ensures.run in
     let asked : length requests ≡ length c.args.requests.now = length-map c.args.requests.now request_of in
     let answered : length c.deref-2.result.now ≡ length replies = ap length c.deref-2.ensures.value in
     omega (arith, many, asked, answered, c.in-Ok.ensures.exact)
