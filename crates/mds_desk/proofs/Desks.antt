@@ -14,8 +14,8 @@ use Rattle.mds_desk.specs.contracts.context.DeskContext as DeskContext
 use Rattle.mds_desk.specs.contracts.author.AuthorRoom as AuthorRoom
 
 module _ (K : RattleType) (g : Ghosts K.Denot) where
-  seat_send : IsSend (DeskContext.the_row K g)
-  seat_send =
+  context_send : IsSend (DeskContext.the_row K g)
+  context_send =
       let cs = config.the_send in
       let cy = config.the_sync in
       let rs = routes_send in
@@ -24,7 +24,7 @@ module _ (K : RattleType) (g : Ghosts K.Denot) where
       (send, (search (sendable, crosses) depth 20, (search (sendable, crosses) depth 20, (cache.the_send K g, (search (sendable, crosses) depth 20, tt)))))
 
   pub desk_send : IsSend (Desk.the_row K g)
-  desk_send = declared_send (Desk.the_type K g) (seat_send, (book.the_send, (pane_send K g, tt)))
+  desk_send = declared_send (Desk.the_type K g) (context_send, (book.the_send, (pane_send K g, tt)))
 
   pub room_send : IsSend (AuthorRoom.the_row K g)
   room_send =

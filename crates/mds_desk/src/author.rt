@@ -240,7 +240,7 @@ impl<K: OpeningName> AuthorRoom<K> {
             routes: _routes,
             drafts: _drafts,
             publisher,
-            cache: _shelf,
+            cache: _cache,
         } = self;
         publisher.finish(rt);
     }
