@@ -1,3 +1,4 @@
+//! The bitmaps of an operator's vehicles, cached by policy, and the verdicts that are made of them.
 ghost use Rattle.std.specs.Prelude.{◌≡◌, ◌≤◌, ◌∷◌, ◌++◌, [], List, ℕ, true, All, IfSome, drop, length};
 ghost use Rattle.std.specs.BTreeMap.{IsOrdered, btree_map_len, keys};
 ghost use Rattle.mds_policy.specs.Policy.{policy_document};

@@ -1,3 +1,4 @@
+//! The first set bit of a bitmap of rules.
 ghost use Rattle.std.specs.Prelude.{◌≡◌, ◌≤◌, ◌<◌, ◌++◌, ◌∷◌, [], ℕ, List, Bool, IfSome, length};
 ghost use Rattle.mds_geometry.specs.declared.position.Position.{Position};
 ghost use Rattle.mds_policy.specs.Policy.{Policy};

@@ -1,3 +1,4 @@
+//! Whether a vehicle counts towards a rule's measure, by when the run of its state began.
 ghost use Rattle.std.specs.Prelude.{◌≡◌, ◌-◌};
 ghost use Rattle.mds_verdict.specs.Verdict.{within, millis};
 ghost use Rattle.mds_bitmaps.specs.Columns.{adds_since};

@@ -1,3 +1,4 @@
+//! The verdicts on a policy's rules from columns of devices, beginnings and bitmaps.
 ghost use Rattle.std.specs.Prelude.{◌≡◌, ◌^◌, ◌<◌, ◌≤◌, List, ℕ, Some, [], ◌∷◌, ◌++◌, All, IfOk, OnOk, length, map};
 ghost use Rattle.mds_geometry.specs.declared.position.Position.{Position};
 ghost use Rattle.mds_policy.specs.Policy.{policy_document};

@@ -1,3 +1,4 @@
+//! The bitmap of a policy's rules that a vehicle meets.
 ghost use Rattle.std.specs.Prelude.{◌≡◌, ◌≤◌, IfOk, map, length};
 ghost use Rattle.std.specs.List.{list_any};
 ghost use Rattle.mds_geometry.specs.Area.{area_holds};

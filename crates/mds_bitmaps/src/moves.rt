@@ -1,3 +1,4 @@
+//! What a device that comes or goes changes in the columns and in each cached bitmap.
 ghost use Rattle.std.specs.Prelude.{◌≡◌, ◌≤◌, true, length, IfSome};
 ghost use Rattle.std.specs.List.{insert};
 ghost use Rattle.std.specs.BTreeMap.{IsOrdered};

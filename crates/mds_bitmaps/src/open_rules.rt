@@ -1,3 +1,4 @@
+//! The bitmap of a policy's rules that are open at a local time.
 ghost use Rattle.std.specs.Prelude.{◌≤◌, length};
 ghost use Rattle.mds_policy.specs.Policy.{policy_document};
 ghost use Rattle.mds_bitmaps.specs.Masks.{IsOpenMask};

@@ -1,3 +1,4 @@
+//! The word that is cached of each vehicle.
 ghost use Rattle.std.specs.Prelude.{◌≡◌, ◌≤◌, IfOk, IfSome, [], true, length};
 ghost use Rattle.std.specs.BTreeMap.{IsOrdered, keys};
 ghost use Rattle.mds_bitmaps.specs.Index.{AreKept, AreRead, device_cmp, rows_in};

@@ -65,7 +65,11 @@ impl<K: OpeningName> Desk<K> {
     {
         let limit = context.config.operators()[context.place].limit as u32;
         let book = Book::new(context.alloc, limit);
-        Desk { context, book, pane }
+        Desk {
+            context,
+            book,
+            pane,
+        }
     }
 
     pub(crate) fn pane(&self) -> &Pane<K>
@@ -179,17 +183,29 @@ impl<K: OpeningName> Desk<K> {
         ensures told { IfOk result.1 (T.tells telling.now (state_of result.0).known) }
         ensures refused { IfErr result.1 (λ code. (code ≡ NoMemory) ⊎ ((code ≡ NoSnapshot) × (state_of result.0 ≡ state_of self))) }
     {
-        let Self { context, book, pane } = self;
+        let Self {
+            context,
+            book,
+            pane,
+        } = self;
         match pane.look() {
             Ok(look) => {
                 let told = query_look(context.alloc, &look, telling);
                 let pane = look.leave();
-                let desk = Desk { context, book, pane };
+                let desk = Desk {
+                    context,
+                    book,
+                    pane,
+                };
                 (desk, told)
             }
             Err(none) => {
                 let pane = none.pane;
-                let desk = Desk { context, book, pane };
+                let desk = Desk {
+                    context,
+                    book,
+                    pane,
+                };
                 (desk, Err(Code::NoSnapshot))
             }
         }

@@ -1,3 +1,4 @@
+//! Why a text is refused as a geography.
 use mds_geometry::RingFault;
 use mds_text::TextFault;
 use std::alloc::{AllocError, AllocFailed};

@@ -1,3 +1,4 @@
+//! A geography document, read from its text (MDS 2.0 Geography; RFC 7946).
 ghost use Rattle.std.specs.Prelude.{◌≡◌, IfOk, option_map, string_bytes};
 ghost use Rattle.mds_text.specs.Fault.{Gives};
 ghost use Rattle.mds_geography.specs.Fault.{geo_cause};

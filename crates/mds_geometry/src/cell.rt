@@ -1,3 +1,4 @@
+//! What a cell of the grid over an area says of the positions in it.
 /// What a cell of a grid says of the positions in it.
 #[derive(Clone, Copy)]
 pub(crate) enum Cell {

@@ -1,3 +1,4 @@
+//! Positions in units of 10^-7 degree (RFC 7946, section 3.1.1).
 use mds_text::Units7;
 
 /// A position: a point of longitude and latitude (RFC 7946, section 3.1.1), without altitude.

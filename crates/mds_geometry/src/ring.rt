@@ -1,3 +1,4 @@
+//! Linear rings (RFC 7946, section 3.1.6).
 ghost use Rattle.std.specs.Prelude.{◌≡◌, ◌<◌, ◌≤◌, ◌↔◌, Err, Ok, IfOk, IfSome, IsNone, IsTrue, length};
 ghost use Rattle.mds_geometry.specs.Inside.{edges_of_ring, touches, crossings, is_odd};
 ghost use Rattle.mds_geometry.specs.Ring.{IsRing, IsClosed};

@@ -1,3 +1,4 @@
+//! The strips of latitude by which edges are looked up.
 ghost use Rattle.std.specs.Prelude.{◌≤◌};
 
 /// Which latitudes lie in which strip. The height of a strip is a power of two of units of 10^-7

@@ -1,3 +1,4 @@
+//! Why a text isn't read straight from its tokens.
 use json::Invalid;
 use std::alloc::{AllocError, AllocFailed};
 

@@ -1,3 +1,4 @@
+//! The entries of a JSON list, built for it or borrowed.
 ghost use Rattle.std.specs.Prelude.{◌≡◌, [], map, IfOk};
 ghost use Rattle.mds_text.specs.Fault.{Gives, text_cause};
 ghost use Rattle.mds_text.specs.Fields.{list_of};

@@ -1,3 +1,4 @@
+//! JSON values that borrow their strings from the text (RFC 8259).
 use mds_text::Units7;
 
 /// A JSON value (RFC 8259) as a tree that borrows its strings from the text. Numbers that aren't

@@ -1,3 +1,4 @@
+//! What the nodes of a text borrow from, and the reading of a text into nodes.
 ghost use Rattle.std.specs.Prelude.{◌≡◌, IfOk};
 ghost use Rattle.mds_text.specs.Fault.{Gives, text_cause};
 ghost use Rattle.mds_text.specs.Quoting.{quoted_count};

@@ -1,3 +1,4 @@
+//! Local times: the day of the week and the second of the day.
 use mds_text::Moment;
 
 /// A local time: the day of the week, from 0 for Sunday to 6 for Saturday, and the whole second of

@@ -1,3 +1,4 @@
+//! Whether a vehicle meets a rule (MDS 2.0 Policy, rules).
 ghost use Rattle.std.specs.Prelude.{◌≡◌, bytes_eq, map, position};
 ghost use Rattle.std.specs.List.{list_any};
 ghost use Rattle.mds_policy.specs.Policy.{rule_document, policy_document, states_document};

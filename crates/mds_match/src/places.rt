@@ -1,3 +1,4 @@
+//! The polygons of geographies by their identifiers.
 use mds_geometry::{Area, Position};
 use mds_text::Id;
 

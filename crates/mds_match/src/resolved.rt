@@ -1,3 +1,4 @@
+//! A policy's rules with their geographies looked up, at one local time.
 ghost use Rattle.std.specs.Prelude.{◌≡◌, ◌&&◌, IfOk, List, map, position};
 ghost use Rattle.std.specs.List.{list_any};
 ghost use Rattle.mds_geometry.specs.Area.{area_holds};

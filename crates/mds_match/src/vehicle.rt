@@ -1,3 +1,4 @@
+//! Vehicles as rules see them, and the words that they share.
 use mds_geometry::Position;
 use mds_text::{Id, Moment, Token};
 use std::alloc::{AllocError, Global};

@@ -1,3 +1,4 @@
+//! Whether a rule is open at a local time (MDS 2.0 Policy, `start_time`, `end_time`, `days`).
 ghost use Rattle.std.specs.Prelude.{◌≡◌};
 ghost use Rattle.mds_policy.specs.Policy.{rule_document};
 ghost use Rattle.mds_match.specs.Matching.{is_open, is_listed};

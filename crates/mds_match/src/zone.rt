@@ -1,3 +1,4 @@
+//! A time zone as a POSIX TZ rule, and the local time at a moment.
 ghost use Rattle.std.specs.Prelude.{◌≡◌, ◌≤ℤ◌, pos, negsuc, unsigned_abs, IfSome};
 ghost use Rattle.jiff.specs.Words.{plain_zone, offset_at, IsOffsetSeconds};
 ghost use Rattle.mds_text.specs.Fault.{Gives};

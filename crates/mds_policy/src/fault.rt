@@ -1,3 +1,4 @@
+//! Why a text is refused as a policy.
 use mds_text::TextFault;
 use std::alloc::{AllocError, AllocFailed};
 use std::error::Error;

@@ -1,3 +1,4 @@
+//! A policy document, read from its text (MDS 2.0 Policy).
 use crate::dated_tree::with_published_date;
 use crate::fault::PolicyFault;
 use crate::reading::policy_of;

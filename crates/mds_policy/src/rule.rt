@@ -1,3 +1,4 @@
+//! The rules of a policy (MDS 2.0 Policy, rules).
 use mds_text::{Id, Token};
 
 /// The unit of a time rule (MDS 2.0 Policy, rule units).

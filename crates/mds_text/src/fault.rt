@@ -1,3 +1,4 @@
+//! Why a text is refused as a document.
 use crate::field::Field;
 use std::alloc::{AllocError, AllocFailed};
 use std::error::Error;

@@ -1,3 +1,4 @@
+//! The members of documents that the server reads, with their names.
 ghost use Rattle.std.specs.Prelude.{◌≡◌};
 
 /// A member of a document that the server reads, or a part of one that a refusal names.

@@ -1,3 +1,4 @@
+//! Identifiers: UUIDs (RFC 9562).
 ghost use Rattle.std.specs.Prelude.{◌≡◌, IfOk, Some, string_bytes};
 ghost use Rattle.uuid.specs.Text.{parsed, hyphenated_text, lower};
 

@@ -1,3 +1,4 @@
+//! Moments in milliseconds since the Unix epoch.
 ghost use Rattle.std.specs.Prelude.{◌≡◌, ◌≤ℤ◌, pos, IsSome, IfSome, ◌↔◌};
 ghost use Rattle.mds_text.specs.Fields.{last_moment};
 

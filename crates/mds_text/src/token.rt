@@ -1,3 +1,4 @@
+//! Words of the vocabulary, such as vehicle types and event types.
 ghost use Rattle.std.specs.Prelude.{◌≡◌, ◌≤◌, length, true};
 ghost use Rattle.std.specs.List.{list_all};
 ghost use Rattle.std.specs.Cmp.Rules.{comparing};

@@ -1,3 +1,4 @@
+//! JSON values with whole numbers (RFC 8259).
 use crate::units::Units7;
 
 /// A JSON value (RFC 8259) whose numbers are plain whole numbers. `Degrees` occurs only in trees

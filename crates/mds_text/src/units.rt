@@ -1,3 +1,4 @@
+//! Coordinates in units of 10^-7 degree.
 ghost use Rattle.std.specs.Prelude.{◌≡◌, ◌≤ℤ◌, pos, IsSome, IfSome, ◌↔◌};
 ghost use Rattle.mds_text.specs.Numbers.{least_units, most_units};
 

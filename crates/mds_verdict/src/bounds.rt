@@ -1,3 +1,4 @@
+//! Bounds of rules, and whether a vehicle counts towards a rule's measure.
 ghost use Rattle.std.specs.Prelude.{◌≡◌, ◌*◌, ◌≤◌};
 ghost use Rattle.mds_match.specs.Row.{row_of};
 ghost use Rattle.mds_verdict.specs.Verdict.{reaches, above_minimum, below_maximum, within, millis, dwell, adds};

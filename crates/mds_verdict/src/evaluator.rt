@@ -1,3 +1,4 @@
+//! What evaluates a policy against an operator's vehicles.
 use crate::judge::evaluate_all;
 use crate::verdict::RuleVerdict;
 use mds_match::{Local, Places, Vehicle};

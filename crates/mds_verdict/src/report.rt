@@ -1,3 +1,4 @@
+//! The compliance report on a policy, as JSON.
 ghost use Rattle.std.specs.Prelude.{◌≡◌, ◌^◌, ◌<◌, All, IfOk, map};
 ghost use Rattle.mds_text.specs.Tree.{list, items_of};
 ghost use Rattle.mds_text.specs.View.{view, member_view};

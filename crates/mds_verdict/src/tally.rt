@@ -1,3 +1,4 @@
+//! How many vehicles each rule of a policy counts, and the first of them.
 ghost use Rattle.std.specs.Prelude.{◌≡◌, ◌+◌, ◌^◌, ◌<◌, List, ℕ, [], ◌∷◌, ◌++◌, All, IfOk, IfSome, OnOk, if◌then◌else◌, length, map, nat_lt};
 ghost use Rattle.mds_geometry.specs.declared.position.Position.{Position};
 ghost use Rattle.mds_policy.specs.Policy.{policy_document, rule_document};

@@ -1,3 +1,4 @@
+//! The verdict on a rule: its status, its measure and the devices that it counts.
 use mds_text::Id;
 
 /// The status of a rule in this project's compliance report.

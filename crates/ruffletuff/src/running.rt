@@ -37,8 +37,7 @@ fn status_of(done: Result<u8, ExitCause>) -> u8
 /// Runs what the arguments ask for, reports faults on standard error, and gives the exit status.
 pub fn run<R>(rt: &R) -> u8
 where
-    R: ServerHost + Net<Listener = TcpListener, Stream = TcpStream> + Files<File = File>
-        + Env,
+    R: ServerHost + Net<Listener = TcpListener, Stream = TcpStream> + Files<File = File> + Env,
 {
     let words = match read_words(rt) {
         Ok(words) => words,

@@ -64,7 +64,10 @@ fn fitting_texts<'a>(
 fn is_publication(entry: &JournalEntry<'_>) -> bool
     ensures { result ≡ is_publication (entry_of entry.now) }
 {
-    matches!((entry.client, entry.verb), (EntryClient::Author, Verb::Post))
+    matches!(
+        (entry.client, entry.verb),
+        (EntryClient::Author, Verb::Post)
+    )
 }
 
 /// How many of these entries are publications.

@@ -177,7 +177,10 @@ impl<A: RequestService, C: Clock + Wait + Drop> ServerConn for ConnHandle<A, C> 
 
     fn release(&self) {
         if let Some(key) = self.key {
-            self.context.table.lock(&self.context.clock).remove_conn(key);
+            self.context
+                .table
+                .lock(&self.context.clock)
+                .remove_conn(key);
         }
     }
 }

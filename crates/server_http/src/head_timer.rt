@@ -70,7 +70,11 @@ impl HeadTimer {
         let Some(Deadline { at, .. }) = self.deadline else {
             return false;
         };
-        if !self.sleep.as_ref().is_some_and(|sleep| sleep.deadline() <= at) {
+        if !self
+            .sleep
+            .as_ref()
+            .is_some_and(|sleep| sleep.deadline() <= at)
+        {
             self.sleep = conn.sleep_until(at);
         }
         let Some(sleep) = &mut self.sleep else {

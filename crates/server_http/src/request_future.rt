@@ -39,11 +39,7 @@ pub struct RefusedRequest<P, I> {
 
 impl<P: ServerConn, I: Drop> RequestFuture<P, P::Head, P::Reply, I> {
     /// The future of a request whose head has come.
-    pub fn new(
-        conn: &P,
-        parts: Parts,
-        body: Incoming<I>,
-    ) -> RequestFuture<P, P::Head, P::Reply, I>
+    pub fn new(conn: &P, parts: Parts, body: Incoming<I>) -> RequestFuture<P, P::Head, P::Reply, I>
         ensures { CanPoll P.Reply.can_poll result }
     {
         let mut body = BodyReader::new(conn.alloc(), body);

@@ -17,7 +17,6 @@ pub trait ConnectionRuntime: Wait
     + Copy
     + Drop {}
 
-impl<R: Wait + Threads + Clock + RandomSource + AllocGlobal + Sync + Send + Copy + Drop>
-    ConnectionRuntime for R
-{
-}
+impl<
+    R: Wait + Threads + Clock + RandomSource + AllocGlobal + Sync + Send + Copy + Drop,
+> ConnectionRuntime for R {}

@@ -4,8 +4,8 @@ ghost use Rattle.futures.specs.declared.future.either.Either.TheVariants.{Left, 
 
 use crate::conn_handle::ConnHandle;
 use crate::http_service::HttpService;
-use crate::runtime::ConnectionRuntime;
 use crate::keepalive::{ReactorKeepalive, ReactorNudge, keepalive_pair};
+use crate::runtime::ConnectionRuntime;
 use crate::server_conn::ServerConn;
 use crate::server_context::{RequestService, ServerContext};
 use crate::shutdown::GracePeriod;
@@ -43,7 +43,11 @@ impl AcceptorParts {
         let (nudge, keepalive) = keepalive_pair(alloc)?;
         let nudge = Arc::new(alloc, nudge)?;
         let slot = Arc::new(alloc, ConnSlot::new(alloc)?)?;
-        Ok(AcceptorParts { slot, nudge, keepalive })
+        Ok(AcceptorParts {
+            slot,
+            nudge,
+            keepalive,
+        })
     }
 }
 
@@ -217,7 +221,11 @@ where
     requires sockets { S.can_poll sockets }
     requires ready { A.may_answer }
 {
-    let AcceptorParts { slot, nudge, keepalive } = acceptor_parts;
+    let AcceptorParts {
+        slot,
+        nudge,
+        keepalive,
+    } = acceptor_parts;
     let acceptor = ConnHandle::acceptor(context, slot, nudge);
     serve_with(rt, runtime, http, sockets, acceptor, keepalive)
 }

@@ -1,7 +1,7 @@
 //! Compaction of a journal on a disk that fails at each of its calls.
-use crate::runtime::TestRuntime;
 use crate::disk::{Disk, FailingCalls, JournalOnDisk, NewFileStorage};
 use crate::journal::{COMPACTED, OLD, texts};
+use crate::runtime::TestRuntime;
 use journal_compaction::{CompactFault, Counts, SourceJournal, compact_at};
 use journal_file::Journal;
 use journal_folder::FolderFault;

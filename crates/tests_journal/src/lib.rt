@@ -16,6 +16,6 @@ mod kept_entries;
 #[cfg(test)]
 mod restart;
 #[cfg(test)]
-mod rolling;
-#[cfg(test)]
 mod runtime;
+#[cfg(test)]
+mod swap;

@@ -2,8 +2,8 @@
 ghost use Rattle.std.specs.Prelude.{◌≡◌};
 ghost use Rattle.mds_snapshot.specs.Opening.{book_of};
 
-use crate::runtime::TestRuntime;
 use crate::journal::{TimedExchange, configuration, entries, request};
+use crate::runtime::TestRuntime;
 use journal_recovery::{SilentProgress, start_again};
 use mds_desk::{AuthorRoom, Desk, OpenGate, SharedReply};
 use mds_request::Config;
