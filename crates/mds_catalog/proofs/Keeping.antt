@@ -16,8 +16,8 @@ use Rattle.mds_geography.specs.declared.geography.Geography as program'
 use Rattle.mds_policy.specs.Policy.{Policy, policy_document}
 use Rattle.mds_geography.specs.Geography.{Geography, geography_document}
 use Rattle.mds_catalog.specs.declared.batch.Batch.{Batch}
-use Rattle.mds_catalog.specs.declared.entries.PolicyEntry.{PolicyEntry}
-use Rattle.mds_catalog.specs.declared.spots.DocumentSpot.{DocumentSpot}
+use Rattle.mds_catalog.specs.declared.policy_index.PolicyEntry.{PolicyEntry}
+use Rattle.mds_catalog.specs.declared.document_index.DocumentSpot.{DocumentSpot}
 use Rattle.mds_catalog.specs.Publication.{Publication, publication_of, publications_in, dated, published_policies, published_geographies, policy_ids, geography_ids, is_among, is_superseded, is_withdrawn, is_policy_published, supersedes, missing_predecessor, first_unpublished, fits, is_lawful}
 use Rattle.mds_catalog.specs.Listed.{Ascends, Lists, has, spots_from, spots_in}
 use Rattle.mds_catalog.specs.Index.{after_successors, after_withdrawal, fresh, IsKept}

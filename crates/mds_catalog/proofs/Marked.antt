@@ -8,8 +8,8 @@ use Rattle.std.proofs.lemmas.Bool.Decides.{nat_tests}
 use Rattle.std.proofs.lemmas.List.{length-map}
 use Rattle.std.proofs.lemmas.List.Folds.{list_any-append}
 use Rattle.mds_policy.specs.Policy.{Policy}
-use Rattle.mds_catalog.specs.declared.spots.DocumentSpot.{DocumentSpot}
-use Rattle.mds_catalog.specs.declared.entries.PolicyEntry.{PolicyEntry}
+use Rattle.mds_catalog.specs.declared.document_index.DocumentSpot.{DocumentSpot}
+use Rattle.mds_catalog.specs.declared.policy_index.PolicyEntry.{PolicyEntry}
 use Rattle.mds_catalog.specs.Publication.{dated, is_among, supersedes}
 use Rattle.mds_catalog.specs.Listed.{Ascends, Lists, has}
 use Rattle.mds_catalog.specs.Index.{after_successors, after_superseding, after_withdrawal, fresh, has_come}

@@ -3,8 +3,8 @@ use Rattle.std.specs.Prelude.{◌≡◌, ℕ, ◌≤◌, List, [], ◌∷◌, ma
 use Rattle.std.specs.Option.{option_map_or}
 use Rattle.mds_policy.specs.Policy.{Policy}
 use Rattle.mds_catalog.specs.declared.catalogue.TheConstants.{MOST_POLICIES, MOST_GEOGRAPHIES, MOST_PUBLICATIONS}
-use Rattle.mds_catalog.specs.declared.spots.DocumentSpot.{DocumentSpot}
-use Rattle.mds_catalog.specs.declared.entries.PolicyEntry.{PolicyEntry}
+use Rattle.mds_catalog.specs.declared.document_index.DocumentSpot.{DocumentSpot}
+use Rattle.mds_catalog.specs.declared.policy_index.PolicyEntry.{PolicyEntry}
 use Rattle.mds_catalog.specs.Publication.{Publication, published_policies, published_geographies, policy_ids, geography_ids, is_among, is_superseded, is_withdrawn}
 use Rattle.mds_catalog.specs.Listed.{Ascends, has, spots_in}
 

@@ -5,7 +5,7 @@ use Rattle.std.specs.Ordering.{nat_cmp}
 use Rattle.std.specs.Cmp.Lexicographic.{slice_cmp}
 use Rattle.std.specs.declared.cmp.Ordering.{Ordering}
 use Rattle.std.specs.declared.cmp.Ordering.TheVariants.{Less, Greater}
-use Rattle.mds_catalog.specs.declared.spots.DocumentSpot.{DocumentSpot}
+use Rattle.mds_catalog.specs.declared.document_index.DocumentSpot.{DocumentSpot}
 use Rattle.mds_catalog.specs.Publication.{Publication}
 
 -- identifiers in the order of their bytes

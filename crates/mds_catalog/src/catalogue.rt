@@ -6,11 +6,11 @@ ghost use Rattle.mds_catalog.specs.declared.catalogue.TheConstants.{MOST_GEOGRAP
 
 use crate::batch::Batch;
 use crate::distinct::are_distinct;
-use crate::entries::{PolicyEntry, entry_of, list_policies, supersede, withdraw};
-use crate::force::{is_meant_for, is_running};
+use crate::document_index::{DocumentSpot, list_geographies, spot_of};
+use crate::in_force::{is_meant_for, is_running};
 use crate::lists::{geography_refs, geography_text_refs, policy_refs, policy_text_refs};
+use crate::policy_index::{PolicyEntry, entry_of, list_policies, supersede, withdraw};
 use crate::published::Published;
-use crate::spots::{DocumentSpot, list_geographies, spot_of};
 use mds_geography::Geography;
 use mds_policy::{Policy, Rule};
 use mds_text::{Id, Moment};

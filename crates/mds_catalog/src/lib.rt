@@ -5,17 +5,17 @@
 mod batch;
 mod catalogue;
 mod distinct;
-mod entries;
-mod force;
+mod document_index;
+mod in_force;
 pub mod laws;
 mod lists;
 mod places;
+mod policy_index;
 mod print;
 mod published;
-mod spots;
 
 pub use batch::Batch;
 pub use catalogue::{Catalogue, MOST_GEOGRAPHIES, MOST_POLICIES, MOST_PUBLICATIONS};
 pub use distinct::are_distinct;
-pub use force::is_meant_for;
+pub use in_force::is_meant_for;
 pub use published::Published;

@@ -4,7 +4,7 @@ ghost use Rattle.mds_catalog.specs.Publication.{publications_in, published_polic
 ghost use Rattle.mds_catalog.specs.Catalogue.{lent_policy, lent_geography, served_policy, served_geography};
 
 use crate::batch::Batch;
-use crate::force::is_visible_to;
+use crate::in_force::is_visible_to;
 use crate::published::Published;
 use mds_geography::Geography;
 use mds_policy::Policy;

@@ -6,7 +6,7 @@ ghost use Rattle.mds_policy.specs.Policy.{policy_document};
 ghost use Rattle.mds_catalog.specs.Listed.{Ascends, IsAt, IsGap, Lists, has, spots_from};
 ghost use Rattle.mds_catalog.specs.Index.{after_successors, after_superseding, after_withdrawal, fresh, has_come};
 
-use crate::spots::DocumentSpot;
+use crate::document_index::DocumentSpot;
 use mds_policy::Policy;
 use mds_text::{Id, Moment};
 use std::sync::Arc;

@@ -15,8 +15,8 @@ use Rattle.mds_geography.proofs.geography.Geography.TheSendSync as geography
 use Rattle.mds_json.proofs.node_buffer.ReusableScratch.TheSendSync as scratch
 use Rattle.mds_drafts.specs.contracts.draft.Draft as Draft
 use Rattle.mds_drafts.specs.contracts.drafts.Drafts as Drafts
-use Rattle.mds_catalog.proofs.entries.PolicyEntry.TheSendSync as entry
-use Rattle.mds_catalog.proofs.spots.DocumentSpot.TheSendSync as spot
+use Rattle.mds_catalog.proofs.policy_index.PolicyEntry.TheSendSync as entry
+use Rattle.mds_catalog.proofs.document_index.DocumentSpot.TheSendSync as spot
 use Rattle.mds_catalog.specs.contracts.batch.Batch as Batch
 use Rattle.mds_catalog.specs.contracts.catalogue.Catalogue as Catalogue
 use Rattle.mds_snapshot.proofs.history.NewHistory.TheSendSync as start

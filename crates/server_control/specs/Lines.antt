@@ -1,9 +1,9 @@
 -- The lines of Prometheus' text format: a name with its labels, a space and a number.
 use Rattle.std.specs.Prelude.{ℕ, ◌==◌, List, [], ◌++◌, codes, decimal, if◌then◌else◌}
 use Rattle.server_control.specs.declared.families.Family as families
-use Rattle.server_control.specs.declared.lines.Metadata.{Metadata}
-use Rattle.server_control.specs.declared.lines.Metadata.TheVariants.{Family, Nothing}
-use Rattle.server_control.specs.declared.lines.MetricLine.{MetricLine}
+use Rattle.server_control.specs.declared.exposition.Metadata.{Metadata}
+use Rattle.server_control.specs.declared.exposition.Metadata.TheVariants.{Family, Nothing}
+use Rattle.server_control.specs.declared.exposition.MetricLine.{MetricLine}
 
 -- the first line of a family has its metadata before it
 abbrev pub metadata_of : families.Family → ℕ → Metadata

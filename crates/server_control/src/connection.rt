@@ -1,8 +1,8 @@
 //! A connection of the control port, whose calls don't block.
 use crate::control::{ControlledServer, StopServer};
 use crate::counters::Counters;
+use crate::exposition::metrics;
 use crate::hosts::Hosts;
-use crate::lines::metrics;
 use crate::pages::ControlAnswer;
 use crate::request::{MOST_OF_HEAD, answer_due, control_head_of};
 use std::alloc::{AllocError, AllocGlobal, Global};

@@ -2,9 +2,9 @@
 ghost use Rattle.std.specs.Prelude.{◌≡◌};
 ghost use Rattle.server_control.specs.Counted.{outcome_of, place_of, request_place};
 
+use crate::exposition::{Metadata, MetricLine};
 use crate::families::{BOUNDS, CONNECTIONS, COUNT, FIRST_BUCKET, PLACES, ROWS, SUM, VEHICLES};
 use crate::fleets::Fleet;
-use crate::lines::{Metadata, MetricLine};
 use std::alloc::{AllocError, Global};
 use std::sync::Arc;
 use std::sync::atomic::{AtomicU64, Ordering};

@@ -23,7 +23,7 @@ use Rattle.mds_catalog.specs.Publication.{Publication}
 use Rattle.server_durable.specs.Records.{HasRecord, IsRecordOf}
 use Rattle.server_durable.specs.Refusals.{SaysUnheld, SaysUnheldFor}
 use Rattle.server_durable.specs.CacheControl.{Waits}
-use Rattle.server_durable.specs.declared.lines.TheConstants.{MOST_REPORTS}
+use Rattle.server_durable.specs.declared.batch.TheConstants.{MOST_REPORTS}
 use Rattle.server_durable.specs.declared.many.Halt.{Halt}
 use Rattle.server_durable.specs.declared.many.Halt.TheVariants.{Unheld, NotTold}
 use Rattle.server_durable.specs.declared.pending.NoResponse.{NoResponse}

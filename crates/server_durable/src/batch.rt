@@ -4,7 +4,7 @@ ghost use Rattle.std.specs.Io.BufRead.{strip_last};
 ghost use Rattle.mds_script.specs.Input.{is_feed, is_filled, lines};
 ghost use Rattle.mds_request.specs.Request.{request_of};
 ghost use Rattle.server_durable.specs.Many.{IsRefusedWhole, report_of, reports_of};
-ghost use Rattle.server_durable.specs.declared.lines.TheConstants.{MOST_REPORTS};
+ghost use Rattle.server_durable.specs.declared.batch.TheConstants.{MOST_REPORTS};
 ghost use Rattle.mds_request.specs.declared.code.Code.TheVariants.{NoMemory, TooLarge};
 
 use mds_request::{Code, Request, Verb};

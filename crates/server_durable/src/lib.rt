@@ -2,11 +2,11 @@
 //! shows is synced.
 #![tactic(auto)]
 
+mod batch;
 mod cache_control;
 mod context;
 mod durable_hall;
 pub mod laws;
-mod lines;
 mod many;
 mod pending;
 mod pending_response;
@@ -18,9 +18,9 @@ mod report_lines;
 mod responding;
 mod service;
 
+pub use batch::MOST_REPORTS;
 pub use context::Context;
 pub use durable_hall::DurableHall;
-pub use lines::MOST_REPORTS;
 pub use pending::{NoResponse, ResponseAfterSync};
 pub use pending_response::PendingResponse;
 pub use records::is_accepted;

@@ -11,9 +11,9 @@ ghost use Rattle.server_durable.specs.Many.{AreAskedBy, AreRecordsOf, AreRefused
 ghost use Rattle.server_durable.specs.Records.{record_by};
 ghost use Rattle.server_durable.specs.CacheControl.{Waits};
 
+use crate::batch::{chunk_length, may_be_report, reports};
 use crate::context::Context;
 use crate::durable_hall::DurableHall;
-use crate::lines::{chunk_length, may_be_report, reports};
 use crate::pending::{NoResponse, ResponseAfterSync};
 use crate::records::{NoReservation, is_accepted, operator_client, record_text};
 use crate::report_lines::response_of_all;

@@ -4,11 +4,11 @@ use Rattle.mds_geography.specs.Geography.{geography_document}
 use Rattle.std.specs.declared.sync.Arc.{Arc}
 use Rattle.std.specs.declared.alloc.Global.{Global}
 use Rattle.mds_geography.specs.declared.geography.Geography as program
-use Rattle.mds_catalog.specs.declared.spots.DocumentSpot.{DocumentSpot}
+use Rattle.mds_catalog.specs.declared.document_index.DocumentSpot.{DocumentSpot}
 use Rattle.mds_catalog.specs.Listed.{Lists, spots_from}
 use Rattle.mds_catalog.proofs.Ordered.{lists_more}
 use Rattle.mds_catalog.proofs.SpotsFound.{length-spots_from, spots_more}
-use Rattle.mds_catalog.proofs.spots.list_geographies.Goals as goal
+use Rattle.mds_catalog.proofs.document_index.list_geographies.Goals as goal
 
 pub list_spot-requires-clause-room : goal.list_spot-requires-clause-room
 list_spot-requires-clause-room c =

@@ -1,7 +1,7 @@
 use Rattle.std.proofs.Common.{◌≡◌, map, take, vec_capacity}
 use Rattle.mds_geography.specs.Geography.{geography_document}
 use Rattle.mds_catalog.specs.Listed.{Lists, spots_from}
-use Rattle.mds_catalog.proofs.spots.list_geographies.Given as goal
+use Rattle.mds_catalog.proofs.document_index.list_geographies.Given as goal
 
 -- the geographies before this one have spots
 abbrev pub invariant-loop-place : goal.invariant-loop-place

@@ -2,7 +2,7 @@ use Rattle.std.proofs.Common.{cond, ◌∷◌, [], subst, sym, ap, ◌∙◌, ar
 use Rattle.std.specs.List.{insert}
 use Rattle.mds_catalog.specs.Listed.{Lists}
 use Rattle.mds_catalog.proofs.Ordered.{inserted, lists_inserted, lists_known}
-use Rattle.mds_catalog.proofs.spots.list_spot.Goals as goal
+use Rattle.mds_catalog.proofs.document_index.list_spot.Goals as goal
 
 pub returns-in-Err-clause-listed : goal.returns-in-Err-clause-listed
 returns-in-Err-clause-listed c =

@@ -3,7 +3,7 @@ use Rattle.std.specs.List.{insert}
 use Rattle.mds_catalog.specs.Listed.{Lists}
 use Rattle.mds_catalog.specs.Index.{fresh}
 use Rattle.mds_catalog.proofs.Ordered.{inserted, lists_inserted, lists_known}
-use Rattle.mds_catalog.proofs.entries.list_entry.Goals as goal
+use Rattle.mds_catalog.proofs.policy_index.list_entry.Goals as goal
 
 pub returns-in-Err-clause-listed : goal.returns-in-Err-clause-listed
 returns-in-Err-clause-listed c =

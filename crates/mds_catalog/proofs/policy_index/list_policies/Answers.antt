@@ -4,12 +4,12 @@ use Rattle.mds_policy.specs.Policy.{policy_document}
 use Rattle.std.specs.declared.sync.Arc.{Arc}
 use Rattle.std.specs.declared.alloc.Global.{Global}
 use Rattle.mds_policy.specs.declared.policy.Policy as program
-use Rattle.mds_catalog.specs.declared.spots.DocumentSpot.{DocumentSpot}
+use Rattle.mds_catalog.specs.declared.document_index.DocumentSpot.{DocumentSpot}
 use Rattle.mds_catalog.specs.Listed.{Lists, spots_from}
 use Rattle.mds_catalog.specs.Index.{fresh}
 use Rattle.mds_catalog.proofs.Ordered.{lists_more}
 use Rattle.mds_catalog.proofs.SpotsFound.{length-spots_from, spots_more}
-use Rattle.mds_catalog.proofs.entries.list_policies.Goals as goal
+use Rattle.mds_catalog.proofs.policy_index.list_policies.Goals as goal
 
 pub list_entry-requires-clause-room : goal.list_entry-requires-clause-room
 list_entry-requires-clause-room c =

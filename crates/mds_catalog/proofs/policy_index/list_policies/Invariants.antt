@@ -2,7 +2,7 @@ use Rattle.std.proofs.Common.{◌≡◌, map, take, vec_capacity}
 use Rattle.mds_policy.specs.Policy.{policy_document}
 use Rattle.mds_catalog.specs.Listed.{Lists, spots_from}
 use Rattle.mds_catalog.specs.Index.{fresh}
-use Rattle.mds_catalog.proofs.entries.list_policies.Given as goal
+use Rattle.mds_catalog.proofs.policy_index.list_policies.Given as goal
 
 -- the policies before this one have entries
 abbrev pub invariant-loop-place : goal.invariant-loop-place

@@ -1,7 +1,7 @@
 use Rattle.std.proofs.Common.{rules}
 use Rattle.std.proofs.lemmas.List.Sorted.{answers_always}
 use Rattle.mds_catalog.proofs.Ordered.{searched}
-use Rattle.mds_catalog.proofs.entries.place_of.Goals as goal
+use Rattle.mds_catalog.proofs.policy_index.place_of.Goals as goal
 
 -- the closure gives the identifier
 pub returns-clause-found : goal.returns-clause-found

@@ -2,7 +2,7 @@ use Rattle.std.proofs.Common.{ap, sym, ◌∙◌, arith}
 use Rattle.std.proofs.Math.ListN.{set}
 use Rattle.std.proofs.lemmas.List.Edits.{map_over_more}
 use Rattle.mds_catalog.specs.Index.{after_superseding}
-use Rattle.mds_catalog.proofs.entries.supersede_each.Goals as goal
+use Rattle.mds_catalog.proofs.policy_index.supersede_each.Goals as goal
 
 pub loop-entry-preserved : goal.loop-entry-preserved
 loop-entry-preserved c =

@@ -1,6 +1,6 @@
 use Rattle.std.proofs.Common.{◌≡◌, ◌++◌, map, take, drop}
 use Rattle.mds_catalog.specs.Index.{after_superseding}
-use Rattle.mds_catalog.proofs.entries.supersede_each.Given as goal
+use Rattle.mds_catalog.proofs.policy_index.supersede_each.Given as goal
 
 -- the entries before this one are marked, the others unchanged
 abbrev pub invariant-loop-entry : goal.invariant-loop-entry

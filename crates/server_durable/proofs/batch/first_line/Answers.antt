@@ -2,7 +2,7 @@ use Rattle.std.proofs.Common.{◌≡◌, ◌+◌, ◌∷◌, position, drop, Som
 use Rattle.std.proofs.lemmas.List.{take_rest}
 use Rattle.mds_script.specs.Input.{is_feed, lines}
 use Rattle.server_durable.proofs.Cutting.{first_is, last_is}
-use Rattle.server_durable.proofs.lines.first_line.Goals as goal
+use Rattle.server_durable.proofs.batch.first_line.Goals as goal
 
 pub returns-in-Some-clause-lines : goal.returns-in-Some-clause-lines
 returns-in-Some-clause-lines c =

@@ -2,7 +2,7 @@ use Rattle.std.proofs.Common.{ℕ, Bool, List, ◌<◌, length, Option, Some, No
 use Rattle.memchr.specs.Find.{IsFirstByte}
 use Rattle.mds_script.specs.Input.{is_feed}
 use Rattle.mds_script.proofs.Positions.{first_is_position}
-use Rattle.server_durable.proofs.lines.line_feed.Goals as goal
+use Rattle.server_durable.proofs.batch.line_feed.Goals as goal
 
 found_within : (p : ℕ → Bool) (text : List ℕ) (found : Option ℕ) → IsFirstByte p text found → IfSome found (λ end. end < length text)
 found_within p text None first = tt

@@ -2,7 +2,7 @@ use Rattle.std.proofs.Common.{map}
 use Rattle.mds_request.specs.Request.{request_of}
 use Rattle.server_durable.specs.Many.{report_of, reports_of}
 use Rattle.server_durable.proofs.Cutting.{reported_next}
-use Rattle.server_durable.proofs.lines.reports.Goals as goal
+use Rattle.server_durable.proofs.batch.reports.Goals as goal
 
 pub lines-preserved : goal.lines-preserved
 lines-preserved c =

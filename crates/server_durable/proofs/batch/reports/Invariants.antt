@@ -3,7 +3,7 @@ use Rattle.mds_script.specs.Input.{lines}
 use Rattle.mds_request.specs.Request.{request_of}
 use Rattle.server_durable.specs.Many.{report_of, reports_of}
 use Rattle.server_durable.proofs.Cutting.{reported}
-use Rattle.server_durable.proofs.lines.reports.Given as goal
+use Rattle.server_durable.proofs.batch.reports.Given as goal
 
 -- the reports so far, with those of the lines that are left, are those of the body
 abbrev pub invariant-lines : goal.invariant-lines

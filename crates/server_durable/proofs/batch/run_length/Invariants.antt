@@ -1,5 +1,5 @@
 use Rattle.std.proofs.Common.{◌≡◌}
-use Rattle.server_durable.proofs.lines.run_length.Given as goal
+use Rattle.server_durable.proofs.batch.run_length.Given as goal
 
 -- all requests so far are counted
 abbrev pub invariant-loop-request : goal.invariant-loop-request

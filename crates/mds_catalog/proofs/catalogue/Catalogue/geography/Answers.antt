@@ -6,7 +6,7 @@ use Rattle.std.specs.declared.alloc.Global.{Global}
 use Rattle.mds_geography.specs.declared.geography.Geography as program
 use Rattle.mds_geography.specs.Geography.{Geography, geography_document}
 use Rattle.mds_catalog.specs.declared.batch.Batch.{Batch}
-use Rattle.mds_catalog.specs.declared.spots.DocumentSpot.{DocumentSpot}
+use Rattle.mds_catalog.specs.declared.document_index.DocumentSpot.{DocumentSpot}
 use Rattle.mds_catalog.specs.Publication.{Publication, dated, geography_ids}
 use Rattle.mds_catalog.specs.Catalogue.{publications_of}
 use Rattle.mds_catalog.specs.Listed.{has, spots_in}

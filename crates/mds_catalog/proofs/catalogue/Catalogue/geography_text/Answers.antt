@@ -3,7 +3,7 @@ use Rattle.std.specs.declared.alloc.Global.{Global}
 use Rattle.std.specs.declared.vec.Vec.{Vec}
 use Rattle.mds_geography.specs.Geography.{Geography}
 use Rattle.mds_catalog.specs.declared.batch.Batch.{Batch}
-use Rattle.mds_catalog.specs.declared.spots.DocumentSpot.{DocumentSpot}
+use Rattle.mds_catalog.specs.declared.document_index.DocumentSpot.{DocumentSpot}
 use Rattle.mds_catalog.specs.Publication.{Publication, publication_of, geography_ids, find_geography}
 use Rattle.mds_catalog.specs.Catalogue.{publications_of, served_geography}
 use Rattle.mds_catalog.specs.Listed.{has, spots_in}

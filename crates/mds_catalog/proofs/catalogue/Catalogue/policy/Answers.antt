@@ -6,8 +6,8 @@ use Rattle.std.specs.declared.alloc.Global.{Global}
 use Rattle.mds_policy.specs.declared.policy.Policy as program
 use Rattle.mds_policy.specs.Policy.{Policy, policy_document}
 use Rattle.mds_catalog.specs.declared.batch.Batch.{Batch}
-use Rattle.mds_catalog.specs.declared.spots.DocumentSpot.{DocumentSpot}
-use Rattle.mds_catalog.specs.declared.entries.PolicyEntry.{PolicyEntry}
+use Rattle.mds_catalog.specs.declared.document_index.DocumentSpot.{DocumentSpot}
+use Rattle.mds_catalog.specs.declared.policy_index.PolicyEntry.{PolicyEntry}
 use Rattle.mds_catalog.specs.Publication.{Publication, dated, policy_ids}
 use Rattle.mds_catalog.specs.Catalogue.{publications_of}
 use Rattle.mds_catalog.specs.Listed.{has, spots_in}

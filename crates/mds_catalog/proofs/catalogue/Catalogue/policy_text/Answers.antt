@@ -3,8 +3,8 @@ use Rattle.std.specs.declared.alloc.Global.{Global}
 use Rattle.std.specs.declared.vec.Vec.{Vec}
 use Rattle.mds_policy.specs.Policy.{Policy}
 use Rattle.mds_catalog.specs.declared.batch.Batch.{Batch}
-use Rattle.mds_catalog.specs.declared.spots.DocumentSpot.{DocumentSpot}
-use Rattle.mds_catalog.specs.declared.entries.PolicyEntry.{PolicyEntry}
+use Rattle.mds_catalog.specs.declared.document_index.DocumentSpot.{DocumentSpot}
+use Rattle.mds_catalog.specs.declared.policy_index.PolicyEntry.{PolicyEntry}
 use Rattle.mds_catalog.specs.Publication.{Publication, publication_of, policy_ids, find_policy}
 use Rattle.mds_catalog.specs.Catalogue.{publications_of, served_policy}
 use Rattle.mds_catalog.specs.Listed.{has, spots_in}
