@@ -33,7 +33,7 @@ LAYERS = (
     ("Programs", "what is run", """
         mds_replay mds_serve ruffletuff"""),
     ("Tests", "`tests_`: tests and worked examples", """
-        tests_fixtures tests_core tests_examples_core tests_server tests_examples_server tests_journal"""),
+        tests_fixtures tests_core tests_examples_core tests_server tests_examples_server tests_journal tests_cli"""),
 )
 
 

@@ -15,6 +15,3 @@ pub use moment::moment_of;
 pub use text::{HELP, USAGE, VERSION};
 pub use transfers::{Destination, Export, Import, TokenSource, Transfer};
 pub use version::version_line;
-
-#[cfg(test)]
-mod tests;

@@ -12,6 +12,3 @@ pub use client::{Client, Dial, HttpResponse};
 pub use fault::ResponseFault;
 pub use head::{HeadProgress, ParsedHead, parse_head};
 pub use request::{ClientRequest, RemoteServer, request_text};
-
-#[cfg(test)]
-mod tests;

@@ -23,6 +23,3 @@ pub use members::{KnownMember, MOST_NAME};
 pub use nearest::Hint;
 pub use position::{TextPosition, position_of};
 pub use zoning::{ResolvedZone, with_zone, zone_name_in};
-
-#[cfg(test)]
-mod tests;

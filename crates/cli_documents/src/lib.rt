@@ -15,6 +15,3 @@ pub use drafting::{
 pub use features::{id_of_name, prepare_feature};
 pub use member::{id_member, list_member, member_of, text_member};
 pub use order::order_drafts;
-
-#[cfg(test)]
-mod tests;

@@ -13,6 +13,3 @@ pub use footer::rule_in;
 pub use messages::zone_message;
 pub use name::{MOST_NAME, ZoneName};
 pub use rule::ZoneRule;
-
-#[cfg(test)]
-mod tests;

@@ -12,6 +12,3 @@ pub use gbfs::{gbfs_outcome, instant_of};
 pub use mds::mds_outcome;
 pub use published::{features_file, geographies_file, policies_file};
 pub use report::VehicleOutcome;
-
-#[cfg(test)]
-mod tests;

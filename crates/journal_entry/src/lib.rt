@@ -8,8 +8,6 @@ mod entry;
 mod entry_requests;
 mod fitting;
 mod head;
-#[cfg(test)]
-mod tests;
 
 pub use decoding::{EntryFault, read_entry};
 pub use entry::{ENTRY, EntryClient, JournalEntry, MOST_TARGET, WriteFault, entry_text, is_short};

@@ -17,8 +17,6 @@ mod signature;
 mod storage;
 mod sum;
 mod tail_store;
-#[cfg(test)]
-mod tests;
 
 pub use ending::{CutTail, JournalEnding, ending_of};
 pub use file_storage::FileStorage;

@@ -29,6 +29,3 @@ pub use pages::{ControlAnswer, answer_for};
 pub use port::{Port, PortWaker};
 pub use request::{ControlHead, answer_due, control_head_of};
 pub use serving::serve_control;
-
-#[cfg(test)]
-mod tests;

@@ -15,6 +15,3 @@ pub use json::json_response;
 pub use methods::{Methods, methods_of};
 pub use refusal_field::with_refusal_field;
 pub use refusal_reply::HintedReply;
-
-#[cfg(test)]
-mod tests;

@@ -1,5 +1,5 @@
 //! Tests of what arguments ask for, and of the version line.
-use crate::{CliCommand, TokenSource, Transfer, parse_command, version_line};
+use cli_args::{CliCommand, TokenSource, Transfer, parse_command, version_line};
 use std::alloc::{AllocError, AllocGlobal};
 use std::test::Fail;
 

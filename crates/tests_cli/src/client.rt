@@ -1,5 +1,5 @@
 //! Tests of requests over connections that answer with fixed bytes.
-use crate::{
+use cli_client::{
     Client, ClientRequest, Dial, HeadProgress, RemoteServer, ResponseFault, body_of, parse_head,
     request_text,
 };

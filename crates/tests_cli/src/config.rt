@@ -1,5 +1,5 @@
 //! Tests of the findings in configurations.
-use crate::{Limits, ResolvedZone, review, with_zone, zone_name_in};
+use cli_config::{Limits, ResolvedZone, review, with_zone, zone_name_in};
 use cli_timezone::{ZoneFileFault, ZoneRule};
 use mds_request::Config;
 use mds_text::Id;

@@ -1,5 +1,5 @@
 //! Tests of a file's documents as they are sent.
-use crate::{
+use cli_documents::{
     ImportDraft, Origin, PreparedDocument, RefusalReason, documents, order_drafts, prepare,
     target_of,
 };

@@ -1,5 +1,5 @@
 //! Tests of the names of zones, and of the footers of their files.
-use crate::{ZoneFileFault, ZoneName, ZoneRule, rule_in, zone_message};
+use cli_timezone::{ZoneFileFault, ZoneName, ZoneRule, rule_in, zone_message};
 use std::alloc::{AllocError, Global};
 use std::test::Fail;
 

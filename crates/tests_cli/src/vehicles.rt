@@ -1,5 +1,5 @@
 //! Tests of vehicles of feeds, and of files of what is published.
-use crate::{
+use cli_vehicles::{
     VehicleOutcome, features_file, gbfs_outcome, geographies_file, instant_of, mds_outcome,
     policies_file,
 };

@@ -1,5 +1,5 @@
-//! Tests of payloads whose bytes are worked out by hand.
-use crate::{
+//! Tests of the payloads of entries, whose bytes are worked out by hand.
+use journal_entry::{
     EntryClient, EntryFault, HeadFault, JournalEntry, OperatorShare, entry_text, head_text,
     read_entry, read_head,
 };

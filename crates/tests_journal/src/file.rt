@@ -1,13 +1,8 @@
-//! Tests. The expected bytes come from another program's SipHash-1-3 with both keys 0.
-use crate::ending::{CutTail, JournalEnding, ending_of};
-use crate::group::{are_taken, group_of};
-use crate::journal::{Journal, JournalOpenFault};
-use crate::log::{AppendFault, Log};
-use crate::memory_storage::MemoryStorage;
-use crate::reading::read;
-use crate::record::push;
-use crate::signature::Signature;
-use crate::tail_store::MemoryTailStore;
+//! Tests of the records of a journal. The expected bytes come from another program's SipHash-1-3 with both keys 0.
+use journal_file::{
+    AppendFault, CutTail, Journal, JournalEnding, JournalOpenFault, Log, MemoryStorage,
+    MemoryTailStore, Signature, are_taken, ending_of, group_of, push, read,
+};
 use std::alloc::{AllocError, Global};
 
 const FIRST: &[u8] = &[0, 0, 0, 3, 37, 19, 247, 30, 17, 226, 15, 101, 111, 110, 101];

@@ -1,6 +1,7 @@
-//! Tests of group commit over a log whose calls fail, of a log whose file is replaced, of restarts and of compaction:
-//! journals whose outcome is worked out by hand, and a disk that fails at each of its calls. They use public items
-//! alone, and are a crate of their own, so that proving them doesn't prove the tested crates again.
+//! Tests of records and entries, of group commit over a log whose calls fail, of a log whose file is replaced, of
+//! restarts and of compaction: journals whose outcome is worked out by hand, and a disk that fails at each of its
+//! calls. They use public items alone, and are a crate of their own, so that proving them doesn't prove the tested
+//! crates again.
 #![tactic(auto)]
 
 #[cfg(test)]
@@ -8,7 +9,11 @@ mod commits;
 #[cfg(test)]
 mod disk;
 #[cfg(test)]
+mod entry;
+#[cfg(test)]
 mod failing;
+#[cfg(test)]
+mod file;
 #[cfg(test)]
 mod journal;
 #[cfg(test)]

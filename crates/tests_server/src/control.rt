@@ -1,9 +1,7 @@
 //! Tests of the control port over loopback.
-use crate::counters::{CallKind, Counters, Figure};
-use crate::fleets::Fleet;
-use crate::{
-    Control, ControlAnswer, ControlHead, Hosts, Port, StopServer, answer_due, control_head_of,
-    metrics, serve_control, stop,
+use server_control::{
+    CallKind, Control, ControlAnswer, ControlHead, Counters, Figure, Fleet, Hosts, Port,
+    StopServer, answer_due, control_head_of, metrics, serve_control, stop,
 };
 use std::alloc::{AllocError, AllocGlobal, Global};
 use std::fs::{self, Files};

@@ -1,5 +1,5 @@
-//! Tests of snapshots, desks and halls, and of connections over loopback. They use public items alone, and are a
-//! crate of their own, so that proving them doesn't prove the tested crates again.
+//! Tests of snapshots, desks and halls, of responses and the control port, and of connections over loopback. They use
+//! public items alone, and are a crate of their own, so that proving them doesn't prove the tested crates again.
 #![tactic(auto)]
 
 #[cfg(test)]
@@ -8,6 +8,8 @@ mod city;
 mod closing;
 #[cfg(test)]
 mod connections;
+#[cfg(test)]
+mod control;
 #[cfg(test)]
 mod counting;
 #[cfg(test)]
@@ -20,6 +22,8 @@ mod hall;
 mod loopback;
 #[cfg(test)]
 mod queues;
+#[cfg(test)]
+mod responses;
 #[cfg(test)]
 mod snapshot;
 #[cfg(test)]

@@ -1,14 +1,11 @@
 //! Tests of refusals and their header fields.
-use crate::hint::RefusalHint;
-use crate::methods::{Methods, methods_of};
-use crate::refusal_field::with_refusal_field;
-use crate::refusal_reply::HintedReply;
 use bytes::Bytes;
 use futures::executor::block_on;
 use futures::future::ready;
 use http::header::{ALLOW, WWW_AUTHENTICATE};
 use http::{HeaderName, HeaderValue, Response, StatusCode};
 use http_body_util::Full;
+use server_responses::{HintedReply, Methods, RefusalHint, methods_of, with_refusal_field};
 use std::alloc::Global;
 
 /// An empty response with this status.
