@@ -1,5 +1,6 @@
 -- How far a request is.
-use Rattle.std.specs.Prelude.{⊤, IfSome}
+use Rattle.std.specs.Prelude.{◌≡◌, ⊤, [], IfSome}
+use Rattle.server_admission.specs.Arrival.{body_in, closes_after}
 use Rattle.server_http.specs.Turn.{IsWaiting}
 use Rattle.server_http.specs.declared.admitted_request.RequestStage.{RequestStage}
 use Rattle.server_http.specs.declared.admitted_request.RequestStage.TheVariants.{Reading, Queued, Paused, Answering, Finished}
@@ -17,3 +18,8 @@ CanProceed can_poll Finished = ⊤
 abbrev pub CanPoll : {P H F I : Type 0} → (F → Type 0) → RequestFuture P H F I → Type 0
 CanPoll can_poll (Admitted request) = CanProceed can_poll request.stage
 CanPoll can_poll (Refused request) = ⊤
+
+-- once its response is pending, the bytes of its body are released, and whether its connection closes stays known
+abbrev pub IsReleased : {F I : Type 0} → RequestStage F I → RequestStage F I → Type 0
+IsReleased (Queued arrived turn) (Answering reply kept) = (body_in kept ≡ []) × (closes_after kept ≡ closes_after arrived)
+IsReleased old new = ⊤

@@ -5,7 +5,7 @@ ghost use Rattle.futures.specs.Task.{Covers, Keeps};
 ghost use Rattle.futures.specs.Poll.{IfReady, OnPending};
 ghost use Rattle.server_admission.specs.Arrival.{body_in, closes_after};
 ghost use Rattle.server_http.specs.Busy.{SaysBusy};
-ghost use Rattle.server_http.specs.RequestStage.{CanProceed};
+ghost use Rattle.server_http.specs.RequestStage.{CanProceed, IsReleased};
 
 use crate::replies::{busy, close_unless_whole};
 use crate::server_conn::ServerConn;
@@ -159,6 +159,7 @@ impl<P: ServerConn, I: Drop> AdmittedRequest<P, P::Head, P::Reply, I> {
     fn start_answer(&mut self) -> Result<(), Crowded>
         requires ready { P.may_answer }
         ensures stage { CanProceed P.Reply.can_poll self.new.stage }
+        ensures body { IsReleased self.old.stage self.new.stage }
     {
         let stage = mem::replace(&mut self.stage, RequestStage::Finished);
         let RequestStage::Queued(arrived, _) = stage else {
