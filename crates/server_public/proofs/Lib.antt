@@ -1,5 +1,4 @@
 mod Found
-mod Identified
 mod Joined
 mod Listed
 mod Members

@@ -1,1 +1,2 @@
+mod Identified
 pub mod Apart

@@ -1,6 +1,6 @@
 use Rattle.std.proofs.Common.{ap, sym, ◌∙◌}
 use Rattle.uuid.specs.Text.{parsed}
-use Rattle.server_public.proofs.Identified.{of_none, of_text}
+use Rattle.server_routes.proofs.Identified.{of_none, of_text}
 use Rattle.server_routes.proofs.public_target.identifier.Goals as goal
 
 pub returns-in-Ok : goal.returns-in-Ok
