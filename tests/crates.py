@@ -7,7 +7,7 @@
 
 What a crate is, is the first sentence of its src/lib.rt or src/main.rt. Of the crates that crates.txt lists for it, the table has those
 that no other of them stands on. Each crate stands in one layer of LAYERS, and uses crates of that layer and of those before it alone.
-No crate is listed for one whose files don't name it. The last line of --write and --check is 'N passed, M failed', over the rows of
+No crate is listed for one whose files don't name it, and each that they cite is. The last line of --write and --check is 'N passed, M failed', over the rows of
 the table and whatever is wrong with the crates.
 """
 import difflib
@@ -86,14 +86,17 @@ def table(crates):
     return lines, wrong
 
 
-def unnamed(crates):
-    """The crates that crates.txt lists for one whose files don't name them: each doubles what rt sums over."""
+def misnamed(crates):
+    """The crates that crates.txt lists for one whose files don't name them, since each doubles what rt sums over; and those that files name
+    and crates.txt doesn't list, which no check of sources tells where a proof cites them."""
     found = []
     for name, used in crates.items():
         folder = ROOT / "crates" / name
         files = [it for part in ("src", "specs", "proofs") for it in (folder / part).rglob("*") if it.suffix in (".rt", ".antt")]
         text = "\n".join(it.read_text(encoding="utf-8") for it in files)
         found += [f"crates.txt: {name} names nothing of {it}" for it in used if not re.search(rf"\b{it}::|\bRattle\.{it}\b|\buse {it}\b", text)]
+        cited = set(re.findall(r"\bRattle\.(\w+)\.", text)) & set(crates)
+        found += [f"crates.txt: {name} cites {it}, which isn't listed for it" for it in sorted(cited - {name, *used})]
     return found
 
 
@@ -121,7 +124,7 @@ def main():
             found = "\n" + "\n".join(lines) + "\n"
             PAGE.write_text(before + BEGIN + found + END + after)
         passed, differing = compared(lines, found.strip("\n").split("\n"))
-    wrong += unnamed(own_crates())
+    wrong += misnamed(own_crates())
     for line in wrong + differing:
         print(line)
     print(f"{passed} passed, {len(wrong) + len(differing)} failed")
