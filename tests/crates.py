@@ -7,8 +7,8 @@
 
 What a crate is, is the first sentence of its src/lib.rt or src/main.rt. Of the crates that crates.txt lists for it, the table has those
 that no other of them stands on. Each crate stands in one layer of LAYERS, and uses crates of that layer and of those before it alone.
-No crate is listed for one whose files don't name it, and each that they cite is. The last line of --write and --check is 'N passed, M failed', over the rows of
-the table and whatever is wrong with the crates.
+No crate is listed for one whose files don't name it, and each that they cite is. The last line of --write and --check is
+'N passed, M failed', over the rows of the table and whatever is wrong with the crates.
 """
 import difflib
 import re
