@@ -7,6 +7,7 @@
 # plain    the same of mds_serve, which keeps nothing
 # serve    the server on 127.0.0.1:8080 for the city of examples/city.json, kept in out/city, with three lines to paste that ask it
 # try      River City to look at in a browser, on 127.0.0.1:8090: ruffletuff with its page, six policies and two fleets
+# report   a week of River City, and the report on how its operators stood, in out/report
 # test-web  the page's checks in headless Chromium (Debian's chromium and nodejs; minutes, once a server is built)
 # shots    the README's screenshots, by the same Chromium
 # openapi  checks docs/openapi.yaml against the protocol and the scripts (a python3 with the modules yaml and jsonschema)
@@ -17,7 +18,7 @@
 # dist-try  installs that package into a clean Debian root and asks its server (as root, minutes)
 # help     these lines
 
-.PHONY: demo test prove edits build server plain serve try test-web shots openapi bench bench-journal stress dist dist-try help
+.PHONY: demo test prove edits build server plain serve try report test-web shots openapi bench bench-journal stress dist dist-try help
 
 # What each takes where nothing is built, on a machine that does nothing else.
 TEST_TIME := about 15 minutes on two processors
@@ -28,6 +29,7 @@ SERVER_TIME := about an hour
 # And once it is built.
 TRY_TIME := half a minute
 WEB_TIME := some minutes
+REPORT_TIME := a minute, and several before a proof
 BENCH_TIME := some minutes
 STRESS_TIME := seconds
 DIST_TIME := some minutes for a commit, since ruffletuff is proved once more with its name in it, and seconds again
@@ -86,6 +88,10 @@ serve:
 
 try:
 	@program=$$($(to_run) ruffletuff) && echo "this fills River City, in $(TRY_TIME)" && exec python3 -B examples/river-city/try.py $$program
+
+report:
+	@program=$$($(to_run) ruffletuff) && echo "this makes a week of River City and its report, in $(REPORT_TIME)" && \
+		exec python3 -B examples/river-city/week.py $$program out/report
 
 # With PAGE=FILE the server is that one, a ruffletuff or mds_serve; else as above.
 test-web:

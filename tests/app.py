@@ -4,10 +4,10 @@
     app.py PROGRAM
 
 Expects the bodies that docs/HTTP.md gives, byte for byte, worked out by hand: of the author, of operators with a name, with none and
-with one that is no name, and of nobody; the withdrawn policies before and after withdrawals, for the author, for an operator that a policy
-is meant for and for one that it isn't; the drafts in their order; the refusals of other methods and roles; that each answer of the city
-may be stored by no cache; that none of it makes an entry in the journal; and the same answers after SIGKILL and another start. Prints
-what is otherwise, and last 'N passed, M failed'; ends with 1 where one failed.
+with one that is no name, and of nobody, by configurations of each oversight and of none; the withdrawn policies before and after
+withdrawals, for the author, for an operator that a policy is meant for and for one that it isn't; the drafts in their order; the refusals
+of other methods and roles; that each answer of the city may be stored by no cache; that none of it makes an entry in the journal; and the
+same answers after SIGKILL and another start. Prints what is otherwise, and last 'N passed, M failed'; ends with 1 where one failed.
 """
 
 import json
@@ -24,14 +24,14 @@ NAME = 'Alfa "Räder" & Söhne'
 PATHS = ("/app/whoami", "/app/withdrawals", "/app/drafts")
 
 
-def configured():
+def configured(**more):
     """A city of three operators: one with a name, one with a name of 257 bytes, which is none, and one with a number in its place."""
     operators = [
         {"id": ALFA, "limit": 5, "token": FIRST, "name": NAME},
         {"id": BRAVO, "limit": 5, "token": SECOND, "name": "b" * 257},
         {"id": CHARLIE, "limit": 5, "token": THIRD, "name": 3},
     ]
-    return json.dumps({"author": AUTHOR, "operators": operators, "zone": ZONE}).encode()
+    return json.dumps({"author": AUTHOR, "operators": operators, "zone": ZONE, **more}).encode()
 
 
 def expect(is_so, what):
@@ -101,12 +101,26 @@ def who(program):
     """Each is told who it is; the author is told who the operators are, by the names that are names."""
     with Alone(program, configured()) as server:
         operators = [{"id": ALFA, "name": NAME}, {"id": BRAVO}, {"id": CHARLIE}]
-        told(server, "/app/whoami", AUTHOR, {"operators": operators, "role": "author", "zone": ZONE})
-        told(server, "/app/whoami", FIRST, {"id": ALFA, "name": NAME, "role": "operator", "zone": ZONE})
-        told(server, "/app/whoami?x=1", SECOND, {"id": BRAVO, "role": "operator", "zone": ZONE})
-        told(server, "/app/whoami", THIRD, {"id": CHARLIE, "role": "operator", "zone": ZONE})
+        told(server, "/app/whoami", AUTHOR, {"operators": operators, "oversight": "none", "role": "author", "zone": ZONE})
+        told(server, "/app/whoami", FIRST, {"id": ALFA, "name": NAME, "oversight": "none", "role": "operator", "zone": ZONE})
+        told(server, "/app/whoami?x=1", SECOND, {"id": BRAVO, "oversight": "none", "role": "operator", "zone": ZONE})
+        told(server, "/app/whoami", THIRD, {"id": CHARLIE, "oversight": "none", "role": "operator", "zone": ZONE})
     with Alone(program, json.dumps({"author": AUTHOR, "operators": [], "zone": "Z"}).encode()) as server:
-        told(server, "/app/whoami", AUTHOR, {"operators": [], "role": "author", "zone": "Z"})
+        told(server, "/app/whoami", AUTHOR, {"operators": [], "oversight": "none", "role": "author", "zone": "Z"})
+    yield from ()
+
+
+def watched(program):
+    """The author and each operator are told how far the author sees: by the last of equal names, and not at all where it is null."""
+    for given, wanted in (("none", "none"), ("verdicts", "verdicts"), ("vehicles", "vehicles"), (None, "none")):
+        with Alone(program, configured(oversight=given)) as server:
+            answer = json.loads(server.ask("GET", "/app/whoami", AUTHOR).body)
+            expect(answer["oversight"] == wanted, f"{given}: the author is told {answer}")
+            told(server, "/app/whoami", FIRST, {"id": ALFA, "name": NAME, "oversight": wanted, "role": "operator", "zone": ZONE})
+            told(server, "/app/whoami", THIRD, {"id": CHARLIE, "oversight": wanted, "role": "operator", "zone": ZONE})
+    twice = configured(oversight="vehicles").replace(b'"oversight": "vehicles"', b'"oversight": "vehicles", "oversight": "verdicts"')
+    with Alone(program, twice) as server:
+        told(server, "/app/whoami", SECOND, {"id": BRAVO, "oversight": "verdicts", "role": "operator", "zone": ZONE})
     yield from ()
 
 
@@ -184,7 +198,7 @@ def withdrawals(program):
         with city.serve() as server:
             all_told(server, general, own)
             told(server, "/app/drafts", AUTHOR, drafts(("policy", 8)))
-            told(server, "/app/whoami", SECOND, {"id": BRAVO, "role": "operator", "zone": ZONE})
+            told(server, "/app/whoami", SECOND, {"id": BRAVO, "oversight": "none", "role": "operator", "zone": ZONE})
             server.stop()
         _, after = city.audit()
         expect(before == after, "what was asked made an entry in the journal")
@@ -193,4 +207,4 @@ def withdrawals(program):
 
 
 if __name__ == "__main__":
-    sys.exit(tried(__doc__, (who, refusals, listing, withdrawals)))
+    sys.exit(tried(__doc__, (who, watched, refusals, listing, withdrawals)))

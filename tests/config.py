@@ -5,9 +5,10 @@
 
 Expects each finding with its line and column, worked out by hand, and the exit status: of texts that stop being JSON, of members that are
 wrong or missing, of members that nobody reads, with the name that may have been meant, and of values of another kind than what is read;
-the same warnings at a start; the rule of POSIX's TZ variable in the place of a zone's name, which the test reads from the machine's file
-apart from the program, at a start, in /app/whoami and in an audit; and what is told where no file has the name; and which
-operator's limit is too low for a journal. Prints what is otherwise, and last 'N passed, M failed'; ends with 1 where one failed.
+the same warnings at a start; that no server starts where `oversight` is none of its texts; the rule of POSIX's TZ variable in the place of
+a zone's name, which the test reads from the machine's file apart from the program, at a start, in /app/whoami and in an audit; and what is
+told where no file has the name; and which operator's limit is too low for a journal. Prints what is otherwise, and last
+'N passed, M failed'; ends with 1 where one failed.
 """
 
 import json
@@ -24,6 +25,7 @@ FILE = f"/usr/share/zoneinfo/{NAME}"
 ALFA, BRAVO = identifier(0, 0xA1), identifier(0, 0xB1)
 TOKEN = "not an access token (1 to 64 of A-Z a-z 0-9 - _)"
 ZONE = "not a time zone (Z, +hh:mm, -hh:mm or a POSIX rule)"
+OVERSIGHT = 'oversight: neither "none", "verdicts" nor "vehicles"'
 
 
 def city(operator="", zone='"Z"', behind=""):
@@ -56,8 +58,20 @@ def checked(program, room, text):
 # A configuration that is one, and what is told of it.
 RIGHT = {
     "a configuration": (city(), []),
-    "all that is read": (city(', "name": "Räder"', behind=',\n  "public": true'), []),
-    "null in the place of what may be missing": (city(', "name": null', behind=',\n  "public": null'), []),
+    "all that is read": (city(', "name": "Räder"', behind=',\n  "public": true,\n  "oversight": "vehicles"'), []),
+    "null in the place of what may be missing": (city(', "name": null', behind=',\n  "public": null,\n  "oversight": null'), []),
+    "nobody is watched": (city(behind=',\n  "oversight": "none"'), []),
+    "verdicts": (city(behind=',\n  "oversight": "verdicts"'), []),
+    # U+0065 is an e (RFC 8259, section 7).
+    "vehicles by an escape": (city(behind=',\n  "oversight": "v\\u0065hicles"'), []),
+    "oversight misspelt": (
+        city(behind=',\n  "oversigth": "all"'),
+        ['7:3: oversigth: nobody reads this member; did you mean "oversight"?'],
+    ),
+    "oversight of an operator": (
+        city(', "oversight": "all"'),
+        ['4:81: operators[0].oversight: nobody reads this member; did you mean "oversight", beside "operators"?'],
+    ),
     "one line": (configuration().decode(), []),
     "a name that is misspelt": (
         city(behind=',\n  "pubilc": true'),
@@ -134,6 +148,24 @@ WRONG = {
         [f"1:1: author: {TOKEN}", '1:2: auhtor: nobody reads this member; did you mean "author"?'],
         f"author: {TOKEN}",
     ),
+    # Behind two blanks `"oversight": ` has 13 characters.
+    "oversight of another text": (city(behind=',\n  "oversight": "all"'), [f"7:16: {OVERSIGHT}"], OVERSIGHT),
+    "oversight with a capital": (city(behind=',\n  "oversight": "Vehicles"'), [f"7:16: {OVERSIGHT}"], OVERSIGHT),
+    "oversight with a blank": (city(behind=',\n  "oversight": "none "'), [f"7:16: {OVERSIGHT}"], OVERSIGHT),
+    "oversight that is empty": (city(behind=',\n  "oversight": ""'), [f"7:16: {OVERSIGHT}"], OVERSIGHT),
+    "oversight that is no text": (city(behind=',\n  "oversight": true'), [f"7:16: {OVERSIGHT}"], OVERSIGHT),
+    "oversight that is a list": (city(behind=',\n  "oversight": ["none"]'), [f"7:16: {OVERSIGHT}"], OVERSIGHT),
+    # `"oversight": "all", ` has 20 characters, and one more with "none": the third value is 41 behind the first.
+    "each of two oversights": (
+        city(behind=',\n  "oversight": "all", "oversight": "none", "oversight": 5'),
+        [f"7:16: {OVERSIGHT}", f"7:57: {OVERSIGHT}"],
+        OVERSIGHT,
+    ),
+    "a zone, a name and oversight": (
+        city(zone="5", behind=',\n  "pubilc": true, "oversight": "all"'),
+        [f"6:11: zone: {ZONE}", '7:3: pubilc: nobody reads this member; did you mean "public"?', f"7:32: {OVERSIGHT}"],
+        OVERSIGHT,
+    ),
 }
 
 
@@ -187,6 +219,29 @@ def started(program):
         status, _, err = ended(program, "audit", here.folder, "--config", here.file)
         if (status, err) != (0, b""):
             yield f"an audit, which is read by programs, said {err!r}, and ended with {status}"
+
+
+def watched(program):
+    """A start with an oversight that is none is refused, with the place of its value and all else that is found; without it, it serves."""
+    with tempfile.TemporaryDirectory(prefix="config-") as room:
+        for zone, behind, wanted in (
+            ('"Z"', '"oversight": "vehicle"', [f"7:16: {OVERSIGHT}"]),
+            ('"Z"', '"oversight": 1, "x": 2', [f"7:16: {OVERSIGHT}", "7:19: x: nobody reads this member"]),
+            ("5", '"oversight": "all"', [f"6:11: zone: {ZONE}", f"7:16: {OVERSIGHT}"]),
+        ):
+            here = City(program, room, city(zone=zone, behind=f",\n  {behind}").encode())
+            status, out, err = here.refused()
+            last = [f"ruffletuff: the configuration is wrong: {here.file}", OVERSIGHT]
+            said = err.decode().splitlines()
+            if status != 2 or out or findings(err, here.file) != wanted or said[len(wanted) :] != last:
+                yield f"a start with {behind}: {status}, {out!r}, {err!r}"
+        here.configure(city(behind=',\n  "oversight": "vehicles"').encode())
+        with here.serve() as server:
+            if (found := json.loads(server.ask("GET", "/app/whoami", FIRST).body)["oversight"]) != "vehicles":
+                yield f"an operator is told that the author sees {found}"
+            _, _, err = server.end()
+        if findings(err, here.file):
+            yield f"a start said {err!r}"
 
 
 def footer(path):
@@ -268,7 +323,7 @@ def lowered(program):
 
 
 if __name__ == "__main__":
-    calls, left = [right, wrong, unreadable, started, nameless, lowered], 0
+    calls, left = [right, wrong, unreadable, started, watched, nameless, lowered], 0
     if os.path.isfile(FILE):
         calls.append(named)
     else:

@@ -125,7 +125,7 @@ def refusals(program):
         refused(server.ask("POST", PATH, "nobody", report(1)), 401, "token", "an anonymous client")
         for method in ("GET", "PUT", "DELETE", "PATCH"):
             refused(server.ask(method, PATH, FIRST), 405, "method", method)
-        for path in (PATH + "/", "/app/fleet", "/app", "/app/fleet/events/x", "/App/fleet/events"):
+        for path in (PATH + "/", "/app", "/app/fleet/events/x", "/App/fleet/events"):
             refused(server.ask("POST", path, FIRST, report(1)), 404, "no_route", path)
         text = report(1) + b"\n"
         long = text + b"\n" * (MOST_BODY + 1 - len(text))

@@ -10,7 +10,8 @@ A table of single requests has for each the method, the target, who asks, the na
 once, of which the earlier one of the protocol's order is told, or one that comes behind `no_room`.
 
 The city has a published policy `{policy}` for everyone, with a rule in the published geography `{place}`, and one of another operator,
-`{others}`; the drafts `{draft}` of a policy and `{drawn}` of a geography; and the operator's vehicle `{device}`. There is no `{unknown}`.
+`{others}`; the operators `{operator}`, who asks, and `{other}`, whose vehicles the author may see; the drafts `{draft}` of a policy and
+`{drawn}` of a geography; and the operator's vehicle `{device}`. There is no `{unknown}`.
 """
 
 import collections
@@ -120,7 +121,10 @@ NOWHERE = """
 /drafts/policies//x /drafts/policies/{draft}/ /drafts/geographies /drafts/geographies/ /drafts/x/{draft} /publish/ /publish/x |
     GET HEAD POST PUT DELETE OPTIONS PATCH      no_route    no_route    token
 
-/app /app/ /app/x /app/whoami/ /app/drafts/x /app/fleet /app/fleet/events/ /app//whoami /App/whoami |
+/app /app/ /app/x /app/whoami/ /app/drafts/x /app/fleet/ /app/fleet/events/ /app//whoami /App/whoami |
+    GET HEAD POST PUT DELETE OPTIONS PATCH      no_route    no_route    token
+
+/app/fleet//x /app/fleet/x/y /app/fleet/vehicles/x /app/compliance/ /app/compliance//x /app/compliance/x/ /app/compliances |
     GET HEAD POST PUT DELETE OPTIONS PATCH      no_route    no_route    token
 
 /mds/2.0 /mds/2.0/ /mds/2.0/x /mds/2.1/policies /mds/policies /index.html /page.css/ /page.CSS /page /web/page.css |
@@ -143,6 +147,26 @@ APP = """
 /app/fleet/events /app/fleet/events?x=1 | POST
     POST                                        role        200!        token
     GET HEAD PUT DELETE OPTIONS PATCH           method      method      token
+
+/app/compliance /app/compliance?x=1 http://x/app/compliance | GET
+    GET                                         200         200         token
+    HEAD POST PUT DELETE OPTIONS PATCH          method      method      token
+
+/app/fleet /app/fleet?x=1 | GET
+    GET                                         role        200         token
+    HEAD POST PUT DELETE OPTIONS PATCH          method      method      token
+
+/app/compliance/{operator} /app/compliance/{other} /app/fleet/{operator} /app/fleet/{other} /app/fleet/{operator}?x=1 | GET
+    GET                                         200         role        token
+    HEAD POST PUT DELETE OPTIONS PATCH          method      method      token
+
+/app/compliance/{unknown} /app/fleet/{unknown} | GET
+    GET                                         not_found   role        token
+    HEAD POST PUT DELETE OPTIONS PATCH          method      method      token
+
+/app/compliance/x /app/compliance/{operator}0 /app/fleet/x /app/fleet/vehicles | GET
+    GET                                         bad_id      role        token
+    HEAD POST PUT DELETE OPTIONS PATCH          method      method      token
 """
 
 # The files of the page, which ruffletuff alone has. The access token isn't looked at.

@@ -44,6 +44,7 @@ CAP, OTHERS, WITHDRAWN, DRAFT, UNKNOWN = 1, 2, 3, 4, 9
 NAMES = {
     "policy": identifier(2, CAP), "others": identifier(2, OTHERS), "draft": identifier(2, DRAFT), "place": identifier(1, CAP),
     "drawn": identifier(1, DRAFT), "device": identifier(4, 1), "unknown": identifier(2, UNKNOWN),
+    "operator": ALFA_ID, "other": BRAVO_ID,
 }
 RING = "[[0,0],[9,0],[9,9],[0,9],[0,0]]"
 # With these bodies a request is carried out, as often as one likes. All others are sent with a body that is none.
@@ -84,8 +85,9 @@ OFTEN = 200 if PATIENCE == 1 else 50
 
 
 def city(is_public=False, limit=3):
-    """A configuration of two operators, on one line."""
-    given = configuration(operator(ALFA_ID, ALFA, limit), operator(BRAVO_ID, BRAVO)) | ({"public": True} if is_public else {})
+    """A configuration of two operators, of whom the author sees all, on one line."""
+    given = configuration(operator(ALFA_ID, ALFA, limit), operator(BRAVO_ID, BRAVO)) | {"oversight": "vehicles"}
+    given |= {"public": True} if is_public else {}
     return json.dumps(given).encode() + b"\n"
 
 

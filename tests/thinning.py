@@ -147,17 +147,17 @@ def staying(lines):
     return [line for place, line in enumerate(lines) if place in kept]
 
 
-def folder_of(city):
-    """The files of a city's folder with their bytes."""
+def folder_of(folder):
+    """The files of a folder with their bytes."""
     found = {}
-    for name in sorted(os.listdir(city.folder)):
-        with open(os.path.join(city.folder, name), "rb") as file:
+    for name in sorted(os.listdir(folder)):
+        with open(os.path.join(folder, name), "rb") as file:
             found[name] = file.read()
     return found
 
 
-def thin(city, file=None, **how):
-    return ended(city.program, "thin", city.folder, "--config", file or city.file, **how)
+def thin(city, *words, file=None, **how):
+    return ended(city.program, "thin", city.folder, "--config", file or city.file, *words, **how)
 
 
 def answers(server, tokens=(AUTHOR, ALFA, BRAVO, CAROL)):
@@ -221,13 +221,13 @@ def is_thinned(run):
             yield f"other lines stay: {city.audit()[1]}, and not {run.kept}"
         if not len(run.kept) < len(run.lines) or not len(city.bytes()) < len(run.bytes):
             yield "it isn't shorter"
-        once = folder_of(city)
+        once = folder_of(city.folder)
         if records.read(once["journal"]).ending != "whole" or sorted(once) != ["ballast", "journal", "lock"]:
             yield f"its folder has {sorted(once)}"
         if (mode := os.stat(city.journal).st_mode & 0o777) != 0o600:
             yield f"the journal has the mode {mode:o}"
         again = f"{wanted[2]} records, {wanted[3]} bytes before; {wanted[2]} records, {wanted[3]} bytes now\n".encode()
-        if (found := thin(city)) != (0, again, b"") or folder_of(city) != once:
+        if (found := thin(city)) != (0, again, b"") or folder_of(city.folder) != once:
             yield f"a second time ends with {found}"
 
 
@@ -282,14 +282,14 @@ def answers_at_the_same_moments(run):
 # --- What is refused -----------------------------------------------------------------------------------------------
 
 
-def is_refused(city, status, said, second=b"", file=None, **how):
+def is_refused(city, status, said, *words, second=b"", file=None, **how):
     """Thinning is refused by name, and the folder's files are what they were."""
-    before = folder_of(city)
-    found = thin(city, file, **how)
+    before = folder_of(city.folder)
+    found = thin(city, *words, file=file, **how)
     if found[:2] != (status, b"") or not found[2].startswith(said) or second not in found[2]:
         yield f"thin ends with {found}, and not with {status, said, second}"
-    if folder_of(city) != before:
-        yield f"it changes the folder: {sorted(folder_of(city))}"
+    if folder_of(city.folder) != before:
+        yield f"it changes the folder: {sorted(folder_of(city.folder))}"
 
 
 def while_a_server_runs(run):
@@ -311,7 +311,7 @@ def other_configurations(run):
         (configuration(*low), b"is answered with status 409\n"),
     ):
         with run.copy(given) as city:
-            yield from is_refused(city, 6, UNFIT + city.folder.encode() + b"\n", second)
+            yield from is_refused(city, 6, UNFIT + city.folder.encode() + b"\n", second=second)
     with run.copy(b'{\n"author": "city"\n}\n') as city:
         yield from is_refused(city, 2, b"ruffletuff: the configuration is wrong: " + city.file.encode())
         none = os.path.join(city.room, "none")
@@ -345,23 +345,34 @@ def damaged_journals(run):
     }
     for said, journal in cases.items():
         with run.copy(journal=journal) as city:
-            yield from is_refused(city, 5, DAMAGED + city.folder.encode() + b"\n", said)
+            yield from is_refused(city, 5, DAMAGED + city.folder.encode() + b"\n", second=said)
     with run.copy(journal=run.bytes + run.bytes[:40]) as city:
         if (found := thin(city))[0] or city.audit()[1] != run.kept:
             yield f"with a torn end it ends with {found}"
 
 
+def limited(limit):
+    """How a program is started none of whose files may have more bytes than this."""
+
+    def limit_files():
+        signal.signal(signal.SIGXFSZ, signal.SIG_IGN)
+        resource.setrlimit(resource.RLIMIT_FSIZE, (limit, limit))
+
+    return {"preexec_fn": limit_files, "restore_signals": False}
+
+
 def a_file_that_can_not_grow(run):
     """Where the thinned journal can't be written the journal stays, and nothing is left beside it."""
     for limit in (1000, 5000, len(run.thinned()) - 1):
-
-        def limited(limit=limit):
-            signal.signal(signal.SIGXFSZ, signal.SIG_IGN)
-            resource.setrlimit(resource.RLIMIT_FSIZE, (limit, limit))
-
         with run.copy() as city:
-            how = {"preexec_fn": limited, "restore_signals": False}
-            yield from is_refused(city, 7, NOT_WRITTEN + city.folder.encode() + b"\n", **how)
+            yield from is_refused(city, 7, NOT_WRITTEN + city.folder.encode() + b"\n", **limited(limit))
+
+
+def fill(filler):
+    """Fills the disk of a file up."""
+    with contextlib.suppress(OSError):
+        while filler.write(bytes(4096)):
+            filler.flush()
 
 
 def a_full_disk(run):
@@ -372,9 +383,7 @@ def a_full_disk(run):
             return
         with run.copy(room=disk) as city, open(os.path.join(disk, "filler"), "wb") as filler:
             os.truncate(os.path.join(city.folder, "ballast"), 0)
-            with contextlib.suppress(OSError):
-                while filler.write(bytes(4096)):
-                    filler.flush()
+            fill(filler)
             yield from is_refused(city, 7, NOT_WRITTEN + city.folder.encode() + b"\n")
             os.truncate(filler.name, 0)
             if (found := thin(city))[0] or city.audit()[1] != run.kept:
@@ -384,7 +393,8 @@ def a_full_disk(run):
 def wrong_arguments(run):
     """Arguments that are none change nothing."""
     with run.copy() as city:
-        for words in (("--config",), ("--until", "1"), ("--config", city.file, "--until", "1"), ("--config", city.file, "--config", city.file)):
+        given, archive = ("--config", city.file), ("--archive", city.room)
+        for words in (("--config",), ("--until", "1"), archive, (*given, "--archive"), (*given, "--until", "1"), given * 2):
             found = ended(run.program, "thin", city.folder, *words)
             if found[:2] != (2, b"") or not found[2].startswith(b"ruffletuff: the arguments are wrong\nusage: "):
                 yield f"{words}: ends with {found}"
@@ -398,12 +408,12 @@ def wrong_arguments(run):
 # --- A day's journal -----------------------------------------------------------------------------------------------
 
 
-def a_days_journal(vehicles):
-    """The journal of so many vehicles that each reported each minute of a day, and how many records it has."""
+def a_days_journal(vehicles, minutes=DAY):
+    """The journal of so many vehicles that each reported each minute of a day, or of so many, and how many records it has."""
     found, sum_ = records.group(0, 0, 0, [records.head([(it, 64) for it in IDS.values()])])
     first = (geography(SQUARE), policy(CAP), policy(STAY, "time"), publish(geographies=[SQUARE], policies=[CAP, STAY]))
     groups = [[records.entry(BEGUN - 1, method, None, target.encode(), body.encode()) for method, target, body in first]]
-    for minute in range(DAY):
+    for minute in range(minutes):
         at = BEGUN + minute * MINUTE
         states = ["on_trip" if minute // (5 + it) % 2 else "available" for it in range(vehicles)]
         bodies = [report(it, at, state).encode() for it, state in enumerate(states)]
@@ -414,12 +424,12 @@ def a_days_journal(vehicles):
         part, sum_ = records.group(sum_, position, position, texts)
         parts.append(part)
         position += len(part)
-    return b"".join(parts), 1 + len(first) + DAY * vehicles
+    return b"".join(parts), 1 + len(first) + minutes * vehicles
 
 
-def killed(city, seconds):
+def killed(city, seconds, *words):
     """Thins, and kills it after so many seconds: whether it was still at it."""
-    words = [city.program, "thin", city.folder, "--config", city.file]
+    words = [city.program, "thin", city.folder, "--config", city.file, *words]
     with subprocess.Popen(words, stdout=subprocess.DEVNULL, stderr=subprocess.DEVNULL) as process:
         try:
             process.wait(seconds)
@@ -463,6 +473,163 @@ def a_day(run):
     print(f"of {run.kills} kills {sum(it[0] for it in ends)} came in time, and {sum(it[1] for it in ends)} found it thinned")
 
 
+# --- An archive ----------------------------------------------------------------------------------------------------
+
+PART = "archive.part"
+NO_ARCHIVE = b"ruffletuff: the archive can't be used: "
+NOT_ARCHIVED = b"ruffletuff: the journal can't be archived, and isn't thinned: "
+NO_ROOM = b"the archive's disk has no room for it\n"
+CHECKED = re.compile(r"\d+ records, (\d+) bytes, 0 behind them, whole\n")
+
+
+def archive_of(city):
+    """The folder of a city's archive, which is made where it isn't there."""
+    place = os.path.join(city.room, "archive")
+    os.makedirs(place, exist_ok=True)
+    return place
+
+
+def lines_of(city, path):
+    """The lines of an archived journal behind its first one."""
+    status, out, err = ended(city.program, "audit", path, "--config", city.file)
+    if status or err:
+        raise ValueError(f"audit of {path} ends with {status}: {err[:200]!r}")
+    return out.decode().splitlines()[1:]
+
+
+def name_of(lines):
+    """The name of the archived journal of these lines."""
+    return f"journal-{split(lines[0])[0]}-{split(lines[-1])[0]}"
+
+
+def archive_faults(city, archive):
+    """What of an archive isn't a whole journal that its owner alone may read, under the name of its entries."""
+    for name in os.listdir(archive):
+        path = os.path.join(archive, name)
+        status, out, err = ended(city.program, "check", path)
+        found = CHECKED.fullmatch(out.decode())
+        if (status, err) != (0, b"") or not found or int(found[1]) != os.path.getsize(path):
+            yield f"check of {name} ends with {status, out, err}"
+        if (mode := os.stat(path).st_mode & 0o777) != 0o600:
+            yield f"{name} has the mode {mode:o}"
+        if re.fullmatch(re.escape(name_of(lines_of(city, path))) + r"(\.[1-9]\d*)?", name) is None:
+            yield f"{name} has the lines of {name_of(lines_of(city, path))}"
+
+
+def is_archived(run):
+    """The journal is kept as it was, once. What is there by its name stays, and each file is read as a journal by itself."""
+    with run.copy() as city:
+        archive, name = archive_of(city), name_of(run.lines)
+        if (found := thin(city, "--archive", archive))[0] or found[2]:
+            yield f"thin ends with {found}"
+        shorter, wanted = city.bytes(), {name: run.bytes}
+        if folder_of(archive) != wanted:
+            yield f"the archive has {sorted(os.listdir(archive))}"
+        if lines_of(city, os.path.join(archive, name)) != run.lines:
+            yield "the archived journal has other lines"
+        if city.audit() != (run.first, run.kept):
+            yield "other lines stay"
+        wanted |= {f"{name}.1": shorter}
+        for _ in range(2):
+            if (found := thin(city, "--archive", archive))[0] or folder_of(archive) != wanted:
+                yield f"once more it ends with {found}, and the archive has {sorted(os.listdir(archive))}"
+        yield from archive_faults(city, archive)
+
+
+def no_archive(run):
+    """An archive that isn't there, or is no folder, is refused at the start, and isn't made."""
+    with run.copy() as city:
+        for archive in (os.path.join(city.room, "none"), city.file):
+            said = NO_ARCHIVE + archive.encode() + b"\n"
+            yield from is_refused(city, 4, said, "--archive", archive)
+            if (found := city.refused("--archive", archive)) != (4, b"", said):
+                yield f"to serve with {archive} ends with {found}"
+        if os.path.exists(os.path.join(city.room, "none")):
+            yield "it is made"
+
+
+def an_archive_that_can_not_be_written(run):
+    """Where the journal can't be archived it isn't thinned, and the archive stays as it was: behind a limit, and where a folder stands in
+    the place of the file that is written."""
+    with run.copy() as city:
+        archive = archive_of(city)
+        said = NOT_ARCHIVED + archive.encode() + b"\n"
+        how = {"second": b"the archive's folder can't be written\n"} | limited(len(run.bytes) - 1)
+        yield from is_refused(city, 7, said, "--archive", archive, **how)
+        if os.listdir(archive):
+            yield f"the archive has {os.listdir(archive)}"
+        os.makedirs(os.path.join(archive, PART, "full"))
+        yield from is_refused(city, 7, said, "--archive", archive)
+        if os.listdir(archive) != [PART]:
+            yield f"the archive has {os.listdir(archive)}"
+
+
+def a_full_archive(run):
+    """On a disk that has no room for the journal it isn't archived nor thinned; once there is room it is."""
+    with tempfile.TemporaryDirectory() as room, small_disk(room, DISK) as disk:
+        if disk is None:
+            print("no disk may be mounted here: a full archive isn't tried")
+            return
+        with run.copy() as city, open(os.path.join(disk, "filler"), "wb") as filler:
+            fill(filler)
+            yield from is_refused(city, 7, NOT_ARCHIVED + disk.encode() + b"\n", "--archive", disk, second=NO_ROOM)
+            if os.listdir(disk) != ["filler"]:
+                yield f"the archive has {os.listdir(disk)}"
+            os.truncate(filler.name, 0)
+            if (found := thin(city, "--archive", disk))[0] or city.audit()[1] != run.kept:
+                yield f"once there is room it ends with {found}"
+            if folder_of(disk).get(name_of(run.lines)) != run.bytes:
+                yield f"once there is room the archive has {os.listdir(disk)}"
+
+
+def killed_at(city, archive, is_reached):
+    """Thins with an archive, and kills it once something is seen: whether it was seen."""
+    words = [city.program, "thin", city.folder, "--config", city.file, "--archive", archive]
+    with subprocess.Popen(words, stdout=subprocess.DEVNULL, stderr=subprocess.DEVNULL) as process:
+        while process.poll() is None:
+            if is_reached():
+                process.kill()
+                return True
+    return False
+
+
+def killed_while_archived(run):
+    """Killed at any step, and at any moment, thinning leaves no archived journal or a whole one, and that one where the journal is thinned;
+    thinning once more archives it once."""
+    given = configuration(*(operator(it, token, 64) for token, it in IDS.items()))
+    journal, _ = a_days_journal(run.vehicles, DAY // 12)
+    seen = []
+
+    def steps(city, archive, name, took):
+        for path in (os.path.join(city.folder, CLEARED), os.path.join(archive, PART), os.path.join(archive, name)):
+            yield lambda path=path: seen.append(killed_at(city, archive, lambda: os.path.exists(path)))
+        for kill in range(run.kills):
+            yield lambda kill=kill: killed(city, took * (0.5 + 0.6 * kill / run.kills), "--archive", archive)
+
+    with run.copy(given, journal=journal) as city:
+        archive, begun = archive_of(city), time.monotonic()
+        if (found := thin(city, "--archive", archive))[0]:
+            yield f"thin ends with {found}"
+        took, shorter, wanted = time.monotonic() - begun, city.bytes(), folder_of(archive)
+        (name,) = wanted
+        for number, step in enumerate(steps(city, archive, name, took)):
+            with open(city.journal, "wb") as file:
+                file.write(journal)
+            shutil.rmtree(archive)
+            os.makedirs(archive)
+            step()
+            found = {it: text for it, text in folder_of(archive).items() if it != PART}
+            is_thinned = city.bytes() == shorter
+            if found not in ({}, wanted) or not is_thinned and city.bytes() != journal or is_thinned and found != wanted:
+                yield f"kill {number}: the archive has {sorted(found)}, and the journal is {'thinned' if is_thinned else 'not thinned'}"
+            if thin(city, "--archive", archive)[0] or city.bytes() != shorter:
+                yield f"kill {number}: then it isn't thinned"
+            last = wanted | ({f"{name}.1": shorter} if is_thinned else {})
+            if folder_of(archive) != last:
+                yield f"kill {number}: then the archive has {sorted(os.listdir(archive))}"
+    print(f"of 3 steps of an archived journal {sum(seen)} were seen before a kill")
+
+
 # --- While the city is served --------------------------------------------------------------------------------------
 
 THINNED = b"ruffletuff: the journal is thinned\n"
@@ -477,10 +644,11 @@ class Reporter:
 
     def __init__(self, token, first, vehicles=4):
         self.token, self.first, self.vehicles = token, first, vehicles
-        self.count, self.sent, self.told = 0, {}, {}
+        self.count, self.sent, self.told, self.accepted = 0, {}, {}, set()
 
     def report_all(self, port, is_over):
-        """Reports until it is over or the connection is closed. The last timestamps are in `sent`, those answered with 200 in `told`."""
+        """Reports until it is over or the connection is closed. The last timestamps are in `sent`, those answered with 200 in `told`,
+        and all of those, each with its device and the token, in `accepted`."""
         with contextlib.suppress(OSError, Closed), Link(port) as link:
             while not is_over():
                 self.count += 1
@@ -491,6 +659,7 @@ class Reporter:
                 if link.answer().status != 200:
                     return
                 self.told[number] = self.sent[number]
+                self.accepted.add((self.token, identifier(4, number), self.sent[number]))
 
     def faults(self, server):
         """What of its vehicles isn't as it was told, or as it was sent last."""
@@ -654,9 +823,8 @@ def a_disk_that_fills_up_while_served(run):
 
         with city.serve("--thin-at", str(DUE)) as server:
             reported(is_beyond(DUE // 2))
-            with contextlib.suppress(OSError), open(filler, "wb", buffering=0) as file:
-                while file.write(bytes(4096)):
-                    pass
+            with open(filler, "wb", buffering=0) as file:
+                fill(file)
             os.truncate(filler, os.path.getsize(filler) - LEFT)
             reported(is_beyond(DUE))
             reached = asking.count + 20
@@ -675,6 +843,87 @@ def a_disk_that_fills_up_while_served(run):
         yield from told_alike(city, wanted)
 
 
+def reports_in(city, archive):
+    """The reports of an archive and of the journal, each with the token, the device and its timestamp."""
+    found = set()
+    for path in (*(os.path.join(archive, it) for it in os.listdir(archive) if it != PART), city.folder):
+        for line in lines_of(city, path):
+            token, _, target, *body = split(line)[1].split(" ", 3)
+            if target == "/fleet/events":
+                row = json.loads(body[0])
+                found.add((token, row["device_id"], row["timestamp"]))
+    return found
+
+
+def is_archived_while_served(run):
+    """Under load and with kills, each journal that a shorter one replaces is archived, whole: archive and journal have every accepted
+    report, and the server tells what it was told."""
+    choice, kills = random.Random(11), max(2, run.kills // 4)
+    with tempfile.TemporaryDirectory(prefix="thinning-") as room:
+        city, asking = city_of(run.program, room), reporters()
+        archive, times = archive_of(city), 0
+        for kill in range(kills + 1):
+            with city.serve("--thin-at", str(SMALL), "--archive", archive) as server:
+                with loaded(server, asking):
+                    time.sleep((0.5 + choice.random()) * PATIENCE if kill < kills else 3 * PATIENCE)
+                    if kill < kills:
+                        server.process.kill()
+                if kill < kills:
+                    _, out, said = server.stop()
+                else:
+                    for it in asking:
+                        yield from it.faults(server)
+                    status, out, said = server.end()
+                    if status:
+                        yield f"it ends with {status}"
+            times += said.count(THINNED)
+            if out or said.replace(THINNED, b"") not in (b"", THINNED[: len(said) % len(THINNED)]):
+                yield f"kill {kill}: it says {out, said}"
+        with contextlib.suppress(FileNotFoundError):
+            os.remove(os.path.join(archive, PART))
+        yield from archive_faults(city, archive)
+        accepted = set().union(*(it.accepted for it in asking))
+        if lacking := accepted - reports_in(city, archive):
+            yield f"{len(lacking)} of {len(accepted)} accepted reports are nowhere: {sorted(lacking)[:3]}"
+        print(f"archived {len(os.listdir(archive))} journals, by {times} thinnings and {kills} kills, under {len(accepted)} reports")
+        if not times or len(os.listdir(archive)) < times:
+            yield f"{times} thinnings left {sorted(os.listdir(archive))}"
+
+
+def a_full_archive_while_served(run):
+    """Where the archive's disk is full the journal isn't thinned, that is said, and the city is served on; once there is room both are
+    done."""
+    with tempfile.TemporaryDirectory() as room, small_disk(room, DISK) as disk:
+        if disk is None:
+            print("no disk may be mounted here: a full archive of a served city isn't tried")
+            return
+        city, asking = city_of(run.program, room), [Reporter(ALFA, 0, 60)]
+        filler = os.path.join(disk, "filler")
+        with open(filler, "wb", buffering=0) as file:
+            fill(file)
+        with city.serve("--thin-at", str(SMALL), "--archive", disk) as server:
+            with loaded(server, asking):
+                # Beyond that it was to be thinned, and then again.
+                until = time.monotonic() + 60 * PATIENCE
+                while os.path.getsize(city.journal) < 4 * SMALL and time.monotonic() < until:
+                    time.sleep(0.1)
+                time.sleep(2 * PATIENCE)
+                full, standing = os.listdir(disk), os.path.getsize(city.journal)
+                os.truncate(filler, 0)
+                until = time.monotonic() + 60 * PATIENCE
+                while (set(os.listdir(disk)) <= {"filler", PART} or os.path.getsize(city.journal) > standing) and time.monotonic() < until:
+                    time.sleep(0.1)
+            yield from asking[0].faults(server)
+            status, out, said = server.end()
+        told = NOT_THINNED + b"it can't be archived: " + NO_ROOM
+        if full != ["filler"] or (status, out) != (0, b"") or not said.startswith(told) or said.replace(told, b"").replace(THINNED, b""):
+            yield f"with {full} in its archive it ends with {status, out, said}"
+        os.remove(filler)
+        yield from archive_faults(city, disk)
+        if THINNED not in said or (lacking := asking[0].accepted - reports_in(city, disk)):
+            yield f"once there is room it says {said}, and {sorted(lacking)[:3]} are nowhere"
+
+
 CASES = (
     is_thinned,
     answers_as_before,
@@ -687,10 +936,17 @@ CASES = (
     a_full_disk,
     wrong_arguments,
     a_day,
+    is_archived,
+    no_archive,
+    an_archive_that_can_not_be_written,
+    a_full_archive,
+    killed_while_archived,
     is_thinned_while_served,
     killed_while_thinned,
     cannot_be_thinned_while_served,
     a_disk_that_fills_up_while_served,
+    is_archived_while_served,
+    a_full_archive_while_served,
 )
 
 

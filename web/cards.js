@@ -1,29 +1,35 @@
-// Policies as cards, with what the server says of their rules, or what the page works out for another moment.
+// Policies as cards, with what the server says of their rules, or what the page works out for a moment to come; and for the
+// author a table of how operators stand.
 
-import { $, el, link, terms } from "./dom.js";
+import { $, csv, download, el, fold, keepPlace, link, terms } from "./dom.js";
+import { inWhole, within } from "./geometry.js";
 import * as layers from "./layers.js";
-import { deviceOf, draw, fit, rowOf, showDevice } from "./map.js";
+import { deviceOf, draw, fit, reveal, rowOf, showDevice } from "./map.js";
 import * as rules from "./rules.js";
-import { isAuthor, now, operatorName, placeName, standingOf, state } from "./state.js";
+import { isAuthor, isEveryone, isOver, now, operatorName, oversight, placeName, shownFleet, standingOf, state } from "./state.js";
 
-const { digitsOf, number, plain, words } = rules;
+const { digitsOf, isSame, number, plain, words } = rules;
 const TAGS = { ok: ["good", "✓ kept"], violated: ["bad", "✗ broken"], inactive: ["", "– not open now"],
   not_evaluated: ["", "not judged"] };
 const TONES = { force: "good", soon: "soon", over: "" };
-const TOLD = 100, LONG = 400;
+const TOLD = 100, LONG = 400, FIRST_ROWS = 25, FIRST_ROWS_NARROW = 8, MORE_ROWS = 200;
 
 /** What the author does with a policy; page.js sets it. */
 export const actions = { replace: null, withdraw: null };
 
 const one = (count, what) => `${number(count)} ${what}${count === 1 ? "" : "s"}`;
 
+// How operators stand, for the author: a row for each operator and rule, and how many break and keep each rule.
+let rows = [], tallies = new Map();
+
 // --- Verdicts -----------------------------------------------------------------------------------------------------------
 
-/** What the page works out by itself, null where it has no fleet. */
-export const workOut = (policy, t) => (state.fleet ? rules.workOut(policy, t, state) : null);
+/** What the page works out by itself, null where it has no fleet of that moment. */
+export const workOut = (policy, t) => (shownFleet() ? rules.workOut(policy, t, state) : null);
 
-/** The verdict of each rule of a policy in force: the server's for now, the page's own for another moment. */
+/** The verdict of each rule of a policy in force for an operator: the server's for now, the page's own for a moment to come. */
 function verdictsOf(policy) {
+  if (isAuthor() || isEveryone()) return null;
   const told = state.moment === null ? state.reports.get(digitsOf(policy.policy_id)) : null;
   if (told) return told.map((it) => ({ ...it, devices: it.devices || [], isOwn: false }));
   const worked = workOut(policy, now());
@@ -68,31 +74,26 @@ function meter(rule, { measure, status, isOwn }) {
   return el("div", {}, bar, el("p", { className: "small" }, `${number(measure)} counted${own}`));
 }
 
-/** A part that is made once it is opened. */
-function fold(key, open, title, make) {
-  const it = el("details", { "data-key": key, open: open.has(key) }, el("summary", {}, title));
-  const fill = () => {
-    if (it.open && it.childElementCount === 1) it.append(make());
-  };
-  it.ontoggle = fill;
-  fill();
-  return it;
-}
-
-/** The vehicles that a broken rule counts, the first hundred of them. */
-function devices(verdict, key, open) {
-  if (!verdict?.devices.length) return null;
+/** The vehicles of an operator that a broken rule counts, the first hundred of them. */
+function devices(verdict, key, open, { owner = 0, title = "" } = {}) {
+  if (!verdict?.devices?.length) return null;
   const { measure, devices: list } = verdict, counted = one(measure, "vehicle");
-  const title = measure > list.length ? `The first ${list.length} of ${counted}` : counted;
-  return fold(`devices ${key}`, open, title, () =>
-    el("ol", { className: "devices" }, list.map((it) => el("li", {}, link(it, () => showDevice(it))))));
+  const first = measure > list.length ? `The first ${list.length} of ${counted}` : counted;
+  const isOnMap = !isAuthor() || oversight() === "vehicles";
+  const item = (it) => el("li", {}, isOnMap ? link(it, () => showDevice(it, owner)) : it);
+  return fold(`devices ${key}`, open.has(`devices ${key}`), title || first, () =>
+    el("div", {}, title && first !== counted ? first : null, el("ol", { className: "devices" }, list.map(item))));
 }
 
 /** What stands beside a rule's name. */
-function ruleTag(rule, verdict, isInForce) {
+function ruleTag(rule, verdict, isInForce, tally) {
   if (verdict) return TAGS[verdict.status];
   if (!isInForce) return null;
+  if (tally?.violated) return ["bad", `✗ broken by ${one(tally.violated, "operator")}`];
+  if (tally?.ok) return ["good", `✓ kept by ${one(tally.ok, "operator")}`];
   if (!rules.isJudged(rule)) return TAGS.not_evaluated;
+  // Hours are the city's: by another zone they aren't told as open or not.
+  if (isEveryone() && !state.clock.isTold && !rules.isAlwaysOpen(rule)) return null;
   return rules.isOpen(rule, now(), state.clock) ? ["good", "open"] : ["", "not open"];
 }
 
@@ -100,7 +101,10 @@ function showRule(rule, key) {
   state.shownRule = state.shownRule === key ? null : key;
   state.shownPlaces = state.shownRule ? rule.geographies.map(digitsOf) : null;
   render();
-  if (state.shownRule) fit(state.shownPlaces);
+  if (state.shownRule) {
+    fit(state.shownPlaces);
+    reveal();
+  }
   draw();
 }
 
@@ -121,16 +125,28 @@ function ruleCard(rule, key, verdict, tag, open) {
     devices(verdict, key, open));
 }
 
-/** Marks on the map what a rule has to do with: the vehicles it catches, where it is shown, and those that break it. */
-function mark(policy, index, verdict) {
-  const key = `${policy.policy_id}/${index}`;
-  if (state.shownRule === key) {
-    state.caught = new Uint8Array(state.fleet.count);
-    for (const row of workOut(policy, now())[index].caught) state.caught[row] = 1;
-  }
+/** For each operator whose vehicles the page has: whether the view isn't narrowed to another, and the policy is meant for it. */
+function shownOwners(policy = null) {
+  const ids = isAuthor() ? state.me.operators.map((it) => it.id) : [state.me.id];
+  const isMeant = (id) => !isAuthor() || !policy?.provider_ids?.length || policy.provider_ids.some((it) => isSame(it, id));
+  return ids.map((id) => isMeant(id) && (state.shownOperator === null || id === state.shownOperator));
+}
+
+/** Marks the vehicles that a shown rule catches. */
+function markCaught(policy, index) {
+  const owners = shownOwners(policy), { owner } = state.fleet;
+  state.caught = new Uint8Array(state.fleet.count);
+  for (const row of workOut(policy, now())[index].caught) if (owners[owner[row]]) state.caught[row] = 1;
+}
+
+/** Marks an operator's vehicles that break a rule, unless another rule is shown. */
+function markOffenders(policy, index, verdict, owner = 0) {
   if (verdict?.status !== "violated" || rules.hasTooFew(policy.rules[index], verdict.measure)) return;
-  if (state.shownRule && state.shownRule !== key) return;
-  for (const row of verdict.devices.map(rowOf)) if (row >= 0) state.offenders.add(row);
+  if (state.shownRule && state.shownRule !== `${policy.policy_id}/${index}`) return;
+  for (const device of verdict.devices) {
+    const row = rowOf(device, owner);
+    if (row >= 0) state.offenders.add(row);
+  }
 }
 
 // --- A policy -----------------------------------------------------------------------------------------------------------
@@ -146,8 +162,9 @@ function about(policy) {
 function judge(policy) {
   const standing = standingOf(policy, now()), isInForce = standing.state === "force";
   const verdicts = isInForce ? verdictsOf(policy) : null;
-  const tags = policy.rules.map((rule, index) => ruleTag(rule, verdicts?.[index], isInForce));
-  const count = (status) => verdicts?.filter((it) => it.status === status).length || 0;
+  const told = policy.rules.map((_, index) => tallies.get(`${policy.policy_id}/${index}`));
+  const tags = policy.rules.map((rule, index) => ruleTag(rule, verdicts?.[index], isInForce, told[index]));
+  const count = (status) => verdicts?.filter((it) => it.status === status).length || told.filter((it) => it?.[status]).length;
   return { policy, standing, verdicts, tags, broken: count("violated"), kept: count("ok") };
 }
 
@@ -165,7 +182,7 @@ function card({ policy, standing, verdicts, tags, broken }, open) {
     ]),
     policy.rules.map((rule, index) => ruleCard(rule, `${id}/${index}`, verdicts?.[index], tags[index], open)),
     isAuthor() && standing.state !== "over" ? authorActions(policy) : null,
-    fold(`document ${id}`, open, "The document", () =>
+    fold(`document ${id}`, open.has(`document ${id}`), "The document", () =>
       el("pre", { tabIndex: 0, role: "region", "aria-label": `The document: ${policy.name}` }, JSON.stringify(policy, null, 2))));
 }
 
@@ -174,6 +191,247 @@ const authorActions = (policy) => el("div", { className: "actions" },
     "aria-label": `Replace ${policy.name}` }, "Replace…"),
   el("button", { type: "button", className: "withdraw", onclick: () => actions.withdraw(policy),
     "aria-label": `Withdraw ${policy.name}` }, "Withdraw…"));
+
+// --- How operators stand ------------------------------------------------------------------------------------------------
+
+// How many rows are shown, and what the table says.
+let most = 0, shownRows = "";
+
+/** The rows for now, and how many operators break and keep each rule. */
+function takeRows() {
+  const operators = isAuthor() && state.moment === null && state.standings?.operators || [];
+  if (!state.me?.operators?.some((it) => it.id === state.shownOperator)) state.shownOperator = null;
+  rows = rules.standingRows(operators, state.policies);
+  tallies = new Map();
+  for (const { policy, index, verdict } of rows) {
+    const key = `${policy.policy_id}/${index}`, tally = tallies.get(key) || {};
+    tallies.set(key, { ...tally, [verdict.status]: (tally[verdict.status] || 0) + 1 });
+  }
+}
+
+/** The rows that the choices above the table leave, in the order that is chosen. */
+function chosenRows() {
+  const policy = $("bypolicy").value, isBrokenAlone = $("brokenalone").checked;
+  const left = rows.filter((it) => (!state.shownOperator || it.id === state.shownOperator)
+    && (!policy || it.policy.policy_id === policy) && (!isBrokenAlone || it.verdict.status === "violated"));
+  return rules.inOrder(left, $("order").value, operatorName);
+}
+
+const standingTag = (status) => TAGS[status] || ["", plain(status)];
+
+// A narrow page shows rows as blocks, so the table's parts say what they are.
+const cell = (...inside) => el("td", { role: "cell" }, inside);
+
+function standingRow(row, open) {
+  const { id, owner, policy, index, rule, verdict } = row, key = `${policy.policy_id}/${index}`;
+  const [tone, text] = standingTag(verdict.status), measure = rules.measured(rule, verdict);
+  const name = rule.name && rule.name !== policy.name ? rule.name : null;
+  const shown = { "aria-pressed": String(state.shownRule === key), "aria-label": `Show on the map: ${policy.name} ${name || ""}` };
+  return el("tr", { role: "row", "data-key": `stands ${id} ${key}`, className: verdict.status === "violated" ? "bad" : "" },
+    el("th", { role: "rowheader", scope: "row" }, operatorName(id)),
+    cell(link(policy.name, () => showRule(rule, key), shown), name && el("div", { className: "small" }, name)),
+    cell(el("span", { className: `tag ${tone}` }, text)),
+    cell(devices(verdict, `stands ${id} ${key}`, open, { owner, title: measure }) || measure));
+}
+
+/** A button for more rows, where some are left. */
+function moreRows(left) {
+  if (left <= 0) return [];
+  const text = `Show ${number(Math.min(left, MORE_ROWS))} more of ${one(left, "row")}`;
+  return [el("div", { className: "actions", "data-key": "more" },
+    el("button", { type: "button", id: "morerows", onclick: showMore }, text))];
+}
+
+/** The first rows of the table. */
+function standingTable(chosen, open) {
+  const head = (name) => el("th", { role: "columnheader", scope: "col" }, name);
+  const none = rows.length ? "No rule is left by what is chosen above." : "No rule is in force for an operator.";
+  if (!chosen.length) return [el("p", { className: "small" }, none)];
+  return [
+    el("table", { className: "standing", role: "table", "aria-labelledby": "standingtitle" },
+      el("thead", { role: "rowgroup" }, el("tr", { role: "row" }, ["Operator", "Policy", "Verdict", "Measure"].map(head))),
+      el("tbody", { role: "rowgroup" }, chosen.slice(0, most).map((it) => standingRow(it, open)))),
+    ...moreRows(chosen.length - most),
+  ];
+}
+
+function showMore() {
+  most += MORE_ROWS;
+  renderTable();
+}
+
+/** Choices of a list, made anew where they are others than before. */
+function offer(select, pairs) {
+  const said = JSON.stringify(pairs), { value } = select;
+  if (select.dataset.said === said) return;
+  select.dataset.said = said;
+  select.replaceChildren(...pairs.map(([key, text]) => el("option", { value: key }, text)));
+  select.value = pairs.some(([key]) => key === value) ? value : "";
+}
+
+/** Why there is no table, empty where there is one. */
+function whyNone() {
+  if (!state.me?.oversight) return "This server doesn’t show the city how its operators stand.";
+  if (oversight() === "none") {
+    return "The configuration doesn’t show the city how its operators stand. With \"oversight\": \"verdicts\" in it their verdicts "
+      + "are told here; with \"oversight\": \"vehicles\" their vehicles are on the map too.";
+  }
+  if (isOver()) return "How operators stood then isn’t told here: the server tells how they stand now.";
+  if (state.moment !== null) return "How operators stand is told for now alone.";
+  return state.standings ? "" : "Asking how operators stand…";
+}
+
+/** How many operators break a rule, when that was told, and how often it is. */
+function standingNote() {
+  const { at, operators } = state.standings, broken = rows.filter((it) => it.verdict.status === "violated");
+  const who = new Set(broken.map((it) => it.owner)).size, kept = rows.filter((it) => it.verdict.status === "ok").length;
+  const untold = operators.filter((it) => !it.compliance?.policies).map((it) => operatorName(it.id));
+  return `${who ? number(who) : "None"} of ${one(operators.length, "operator")} ${who > 1 ? "break" : "breaks"} a rule: `
+    + `${one(broken.length, "rule")} broken, ${number(kept)} kept. As of ${state.clock.time(at)} (${state.clock.name(at)}), `
+    + `renewed every ${state.settings.refresh_seconds} seconds while the page is looked at.`
+    + (untold.length ? ` How ${words(untold, "and")} stands wasn’t told.` : "");
+}
+
+/** The operators and the policies that can be chosen. */
+function offerChoices() {
+  const used = new Set(rows.map((it) => it.policy));
+  offer($("byoperator"), [["", "all"], ...state.me.operators.map((it) => [it.id, operatorName(it.id)])]);
+  offer($("bypolicy"), [["", "all"], ...state.policies.filter((it) => used.has(it)).map((it) => [it.policy_id, it.name])]);
+  $("byoperator").value = state.shownOperator || "";
+}
+
+/** Shows the table, made anew only where it says something else than before. */
+function renderTable() {
+  const chosen = chosenRows(), told = chosen.slice(0, most).map((it) => [it.id, it.policy.policy_id, it.index, it.verdict]);
+  const said = JSON.stringify([told, chosen.length, rows.length, state.shownRule, oversight(), state.me.operators]);
+  if (said === shownRows) return;
+  const place = keepPlace($("standing"), "#standingtable");
+  const open = [...document.querySelectorAll("#standingtable details")].filter((it) => it.open).map((it) => it.dataset.key);
+  $("standingtable").replaceChildren(...standingTable(chosen, new Set(open)));
+  shownRows = said;
+  place();
+}
+
+function renderStandings() {
+  $("standing").hidden = !isAuthor();
+  $("work").classList.toggle("overseen", isAuthor());
+  if (!isAuthor()) return;
+  const why = whyNone();
+  $("standingnote").textContent = why || standingNote();
+  $("standingview").hidden = why !== "";
+  if (why) return;
+  offerChoices();
+  renderTable();
+}
+
+const CSV_HEAD = ["Moment (UTC)", "Operator", "Operator identifier", "Policy", "Policy identifier", "Rule", "Rule identifier",
+  "Verdict", "Measure", "At least", "At most", "Unit", "Vehicles (the first 100)"];
+
+/** The table as CSV, with all rows that are chosen. */
+function standingCsv() {
+  const moment = new Date(state.standings.at).toISOString();
+  const line = ({ id, policy, rule, verdict }) => [moment, operatorName(id), id, policy.name, policy.policy_id, rule.name,
+    rule.rule_id, standingTag(verdict.status)[1].replace(/^[✓✗–] /, ""), verdict.measure, rule.minimum, rule.maximum,
+    rule.rule_type === "time" ? rule.rule_units : "vehicles", (verdict.devices || []).join(" ")];
+  return csv([CSV_HEAD, ...chosenRows().map(line)]);
+}
+
+function downloadCsv() {
+  const moment = new Date(state.standings.at).toISOString().slice(0, 19).replace(/[T:]/g, "-");
+  download(`operators-${moment}.csv`, "text/csv;charset=utf-8", standingCsv());
+}
+
+/** Binds the choices above the table. */
+export function start() {
+  const isNarrow = matchMedia("(max-width: 800px)").matches;
+  const anew = () => {
+    most = isNarrow ? FIRST_ROWS_NARROW : FIRST_ROWS;
+    state.shownOperator = $("byoperator").value || null;
+    render();
+    draw();
+  };
+  most = isNarrow ? FIRST_ROWS_NARROW : FIRST_ROWS;
+  for (const id of ["byoperator", "bypolicy", "order", "brokenalone"]) $(id).onchange = anew;
+  $("csv").onclick = downloadCsv;
+}
+
+// --- How operators would stand by a draft -------------------------------------------------------------------------------
+
+const OPEN_AT_FIRST = 3;
+
+/** Which vehicles a place holds: as it was read with the fleets, a draft's by its outline. */
+const marksOf = (place) =>
+  state.fleet.inside[state.places.indexOf(place)] || within(inWhole(place.polygons), state.fleet, state.fleet.count);
+
+/** The city as the rules of a draft see it now, with the places of drafts; and whether a place of a rule isn't there. */
+function cityOf(policy) {
+  const used = new Set(policy.rules.flatMap((it) => it.geographies.map(digitsOf)));
+  const places = [...state.places, ...state.draftPlaces].filter((it) => used.has(digitsOf(it.geography_id)));
+  const known = new Set(places.map((it) => digitsOf(it.geography_id)));
+  const fleet = { ...state.fleet, inside: places.map(marksOf) };
+  return { places, clock: state.clock, fleet, isWhole: known.size === used.size };
+}
+
+/** The operators that a draft is meant for, each with its place among all, and whether its vehicles were read. */
+function meantFor(policy) {
+  const ids = policy.provider_ids || [], { missing } = state.fleet;
+  return state.me.operators.map(({ id }, owner) => ({ id, owner, isRead: !missing.includes(owner) }))
+    .filter((it) => !ids.length || ids.some((id) => isSame(id, it.id)));
+}
+
+function foresightRow({ id, isRead }, rule, { status, measure }) {
+  const [tone, text] = isRead ? standingTag(status) : ["", "vehicles not read"];
+  const counted = isRead && status !== "inactive" ? number(measure) : "–";
+  return el("tr", {}, el("th", { scope: "row" }, operatorName(id)), el("td", {}, counted), el("td", {}, rules.bounds(rule)),
+    el("td", {}, el("span", { className: `tag ${tone}` }, text)));
+}
+
+const foresightTable = (name, lines) => el("table", { className: "foresight", "aria-label": name },
+  el("thead", {}, el("tr", {}, ["Operator", "Counted", "Bound", "Would be"].map((it) => el("th", { scope: "col" }, it)))),
+  el("tbody", {}, lines));
+
+/** How operators would stand by a rule: a table for one of count, for each other kind who tells it. */
+function foresightOf(rule, index, operators, verdicts, isOpen) {
+  const name = rule.name || `Rule ${index + 1}`, sentence = (text) => el("p", { className: "small" }, `“${name}” ${text}`);
+  if (!rules.isJudged(rule)) return sentence("is kept and shown, and not judged by this server.");
+  if (rule.rule_type !== "count") return sentence("is about how long vehicles stand: that is told once the policy is published.");
+  const broken = operators.filter((it) => it.isRead && verdicts[it.owner].status === "violated").length;
+  const title = `${name}: ${broken ? number(broken) : "none"} of ${one(operators.length, "operator")} would break it`;
+  return fold(`would ${index}`, isOpen(`would ${index}`), title, () =>
+    foresightTable(name, operators.map((it) => foresightRow(it, rule, verdicts[it.owner]))));
+}
+
+/** What is said above the tables: by which vehicles, for whom not, and what isn't there. */
+function foresightNote(operators, { isWhole }) {
+  const others = state.me.operators.filter(({ id }) => !operators.some((it) => it.id === id)).map((it) => operatorName(it.id));
+  return `By the vehicles as they were read at ${state.clock.time(state.fleetAt)} (${state.clock.name(state.fleetAt)}), `
+    + "as if it were in force now; worked out by this page."
+    + (others.length ? ` It isn’t meant for ${words(others, "and")}.` : "")
+    + (isWhole ? "" : " A place of a rule is neither published nor a draft: no vehicle is in it.");
+}
+
+/** What is told of a policy that may be any document: a note, and a part for each rule. */
+function foresight(policy) {
+  if (!policy) return ["The document is no JSON, so this can’t be worked out.", []];
+  if (!state.fleet) return ["Reading the operators’ vehicles…", []];
+  try {
+    const city = cityOf(policy), operators = meantFor(policy), verdicts = rules.workOutEach(policy, Date.now(), city);
+    const before = [...$("foresighttable").querySelectorAll("details")], { length } = policy.rules;
+    const isOpen = (key) => before.find((it) => it.dataset.key === key)?.open ?? length <= OPEN_AT_FIRST;
+    const parts = policy.rules.map((it, index) => foresightOf(it, index, operators, verdicts[index], isOpen));
+    return [foresightNote(operators, city), parts];
+  } catch {
+    return ["A member of the document is missing, or of another kind than it has to be, so this can’t be worked out.", []];
+  }
+}
+
+/** Shows how each operator would stand by a draft now, rule by rule; null is a document that is no JSON. */
+export function showForesight(policy) {
+  const [note, parts] = foresight(policy), place = keepPlace($("panel"), "#foresight");
+  $("foresightnote").textContent = note;
+  $("foresighttable").replaceChildren(...parts);
+  place();
+}
 
 // --- All of it ----------------------------------------------------------------------------------------------------------
 
@@ -195,25 +453,79 @@ function renderPlaces(open) {
     el("summary", {}, `Places (${state.places.length})`), el("table", {}, el("tbody", {}, state.places.map(row)))));
 }
 
-function renderSummary(broken, kept) {
+const UNTOLD = "What stood then isn’t told here: the server tells your vehicles and verdicts as they are now.";
+const WATCHED = {
+  none: "The city’s author is shown neither your verdicts nor your vehicles.",
+  verdicts: "The city’s author is shown your verdicts, with the identifiers of vehicles that break a rule, "
+    + "and not where your vehicles are.",
+  vehicles: "The city’s author is shown your verdicts and all of your vehicles: where each is, its state, and since when.",
+};
+
+/** An operator's vehicles and verdicts in numbers, for now or as they would be; none for a moment that is over. */
+function tiles(broken, kept) {
+  if (isOver()) return el("p", { id: "untold" }, UNTOLD);
   const tile = (value, what, tone = "") => el("div", { className: tone }, el("b", {}, value), what);
-  $("summary").replaceChildren(...(isAuthor() ? [] : [el("div", { className: "tiles" },
-    tile(state.fleet ? number(state.fleet.count) : "…", "vehicles"),
-    tile(number(broken), broken === 1 ? "rule broken" : "rules broken", broken ? "bad" : ""),
-    tile(number(kept), kept === 1 ? "rule kept" : "rules kept"))]));
+  const would = state.moment === null ? "" : "would be ";
+  return el("div", { className: "tiles" },
+    tile(state.fleet ? number(state.fleet.count) : "…", would ? "vehicles as of now" : "vehicles"),
+    tile(number(broken), `${broken === 1 ? "rule" : "rules"} ${would}broken`, broken ? "bad" : ""),
+    tile(number(kept), `${kept === 1 ? "rule" : "rules"} ${would}kept`));
+}
+
+const FOR_EVERYONE = "What the city has published for everyone. Policies for single operators, and how operators stand by any, "
+  + "aren’t told here.";
+
+function renderSummary(broken, kept) {
+  const watched = WATCHED[state.me?.oversight];
+  if (isEveryone()) $("summary").replaceChildren(el("p", { id: "foreveryone" }, FOR_EVERYONE));
+  else $("summary").replaceChildren(...(isAuthor() ? [] : [tiles(broken, kept),
+    ...(watched ? [el("p", { className: "small", id: "watched" }, watched)] : [])]));
+}
+
+/** The operators whose vehicles are on the map, with their marks and how many of theirs break a rule. */
+function ownerItems() {
+  const { starts, missing, owner } = state.fleet, counts = new Map();
+  for (const row of state.offenders) counts.set(owner[row], (counts.get(owner[row]) || 0) + 1);
+  const item = ({ id }, index) => {
+    const broken = counts.get(index), icon = el("canvas", { width: 16, height: 16 });
+    layers.drawMark(icon.getContext("2d"), index, 8, 8, 5);
+    const said = broken ? ` (${number(broken)} ${broken === 1 ? "breaks" : "break"} a rule)` : "";
+    return el("li", {}, icon, operatorName(id), said, missing.includes(index) ? " (not read)" : "");
+  };
+  const isThere = (_, index) => starts[index + 1] > starts[index] || missing.includes(index);
+  return [...state.me.operators.map((it, index) => (isThere(it, index) ? item(it, index) : null)).filter(Boolean),
+    el("li", { className: "small" }, `Vehicles as of ${state.clock.time(state.fleetAt)}`)];
 }
 
 function renderLegend() {
   const item = (name, text) => el("li", {}, el("i", { className: name }), text);
-  const used = new Set(state.fleet?.kinds.map(layers.colourOf));
-  $("legend").replaceChildren(...layers.KINDS.filter((it) => used.has(it)).map((it) => item(it, plain(it))),
-    ...(state.offenders.size ? [item("ring", "breaks a rule")] : []));
+  const fleet = shownFleet(), used = new Set(isAuthor() ? [] : fleet?.kinds.map(layers.colourOf));
+  const legend = $("legend"), { scrollTop } = legend;
+  legend.replaceChildren(...layers.KINDS.filter((it) => used.has(it)).map((it) => item(it, plain(it))),
+    ...(state.offenders.size ? [item("ring", "breaks a rule")] : []), ...(isAuthor() && fleet ? ownerItems() : []));
+  const isComing = isAuthor() && oversight() === "vehicles" && state.moment === null && !fleet;
+  if (isComing) legend.append(el("li", {}, "Reading the operators’ vehicles…"));
+  legend.setAttribute("aria-label", isAuthor() ? "Marks of operators" : "Colours of vehicles");
+  legend.tabIndex = legend.scrollHeight > legend.clientHeight + 1 ? 0 : -1;
+  legend.scrollTop = scrollTop;
+}
+
+/** What everyone is shown, for which moment, and by whose clock. */
+function publicNote() {
+  const t = now(), zone = state.clock.name(t);
+  if (state.moment === null) return `Now (${zone}).`;
+  return `${isOver() ? "What was in force then" : "What would be in force then"}, by what is published today (${zone}).`;
 }
 
 /** What is shown, for which moment, and who has judged it. */
 function momentNote() {
+  if (isEveryone()) return publicNote();
+  if (isOver()) {
+    return "What was in force then, by what is published today. "
+      + "What stood then isn’t told here: no vehicle is shown, and no verdict.";
+  }
   if (state.moment !== null) {
-    return isAuthor() ? "What would be in force then, by what is published today."
+    return isAuthor() ? "What would be in force then, by what is published today. How operators stand is told for now alone."
       : "The server judges only by its own clock. For this moment the page works it out by itself: "
         + "the fleet as last reported, standing still, under what is published today.";
   }
@@ -228,35 +540,21 @@ function momentNote() {
 function markAll(judged) {
   state.offenders = new Set();
   state.caught = null;
-  if (!state.fleet) return;
-  for (const { policy, verdicts } of judged) policy.rules.forEach((_, index) => mark(policy, index, verdicts?.[index]));
-}
-
-const STOPS = "summary, button, [tabindex]", SCROLLED = ".long, .devices, pre";
-
-/** Where the focus is and how far parts are scrolled, by the nearest element with a key: answers how to have it so again. */
-function keepPlace() {
-  const panel = $("panel"), { scrollTop } = panel, active = document.activeElement?.closest("#policies, #places") && document.activeElement;
-  const found = (it, what) => {
-    const holder = it.closest("[data-key]");
-    return { key: holder.dataset.key, what, index: [...holder.querySelectorAll(what)].indexOf(it) };
-  };
-  const focus = active?.closest("[data-key]") ? found(active, STOPS) : null;
-  const scrolled = [...panel.querySelectorAll(SCROLLED)].filter((it) => it.scrollTop)
-    .map((it) => ({ ...found(it, SCROLLED), top: it.scrollTop }));
-  const again = ({ key, what, index }) => panel.querySelector(`[data-key="${CSS.escape(key)}"]`)?.querySelectorAll(what)[index];
-  return () => {
-    if (focus) again(focus)?.focus({ preventScroll: true });
-    for (const it of scrolled) {
-      const element = again(it);
-      if (element) element.scrollTop = it.top;
-    }
-    panel.scrollTop = scrollTop;
-  };
+  if (!shownFleet()) return;
+  const owners = shownOwners();
+  for (const { policy, verdicts } of judged) {
+    policy.rules.forEach((_, index) => {
+      if (state.shownRule === `${policy.policy_id}/${index}`) markCaught(policy, index);
+      markOffenders(policy, index, verdicts?.[index]);
+    });
+  }
+  for (const { owner, policy, index, verdict } of rows) if (owners[owner]) markOffenders(policy, index, verdict, owner);
+  if (!state.caught && owners.includes(false)) state.caught = state.fleet.owner.map((owner) => (owners[owner] ? 1 : 0));
 }
 
 function renderPolicies(judged) {
-  const details = [...document.querySelectorAll("#policies details, #places details")], place = keepPlace();
+  const details = [...document.querySelectorAll("#policies details, #places details")];
+  const place = keepPlace($("panel"), "#policies, #places");
   const open = new Set(details.filter((it) => it.open).map((it) => it.dataset.key));
   const of = (name) => judged.filter((it) => it.standing.state === name).map((it) => card(it, open));
   $("policies").replaceChildren(...[
@@ -272,6 +570,7 @@ let shown = "";
 
 /** Shows all that the state holds. Cards are made anew only where they say something else than before. */
 export function render() {
+  takeRows();
   const judged = state.policies.map(judge).sort((a, b) => (b.broken > 0) - (a.broken > 0));
   const sum = (what) => judged.reduce((all, it) => all + it[what], 0);
   markAll(judged);
@@ -280,6 +579,7 @@ export function render() {
   if (said !== shown) renderPolicies(judged);
   shown = said;
   renderSummary(sum("broken"), sum("kept"));
+  renderStandings();
   renderLegend();
   $("timenote").textContent = momentNote();
 }

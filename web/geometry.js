@@ -30,6 +30,39 @@ function side(ax, ay, bx, by, x, y) {
   return Number(BigInt(bx - ax) * BigInt(y - ay) - BigInt(x - ax) * BigInt(by - ay));
 }
 
+/** Whether a point that is in line with a and b is between them. */
+const isBetween = (ax, ay, bx, by, x, y) => (x - ax) * (x - bx) <= 0 && (y - ay) * (y - by) <= 0;
+
+/** Whether two edges have a point in common. */
+function isMeeting([ax, ay, bx, by], [cx, cy, dx, dy]) {
+  const c = Math.sign(side(ax, ay, bx, by, cx, cy)), d = Math.sign(side(ax, ay, bx, by, dx, dy));
+  const a = Math.sign(side(cx, cy, dx, dy, ax, ay)), b = Math.sign(side(cx, cy, dx, dy, bx, by));
+  if (a * b < 0 && c * d < 0) return true;
+  return (c === 0 && isBetween(ax, ay, bx, by, cx, cy)) || (d === 0 && isBetween(ax, ay, bx, by, dx, dy))
+    || (a === 0 && isBetween(cx, cy, dx, dy, ax, ay)) || (b === 0 && isBetween(cx, cy, dx, dy, bx, by));
+}
+
+/**
+ * Whether a closed ring in 10^-7 degrees crosses or touches itself: edges that aren't neighbours have a point in common.
+ * Edges are gone through from west to east, each with those that begin before it ends.
+ */
+export function isCrossing(ring) {
+  const corners = ring.filter(([x, y], i) => !i || x !== ring[i - 1][0] || y !== ring[i - 1][1]), count = corners.length - 1;
+  const edges = Array.from({ length: Math.max(0, count) }, (_, i) => [...corners[i], ...corners[i + 1]]);
+  const west = (i) => Math.min(edges[i][0], edges[i][2]), east = (i) => Math.max(edges[i][0], edges[i][2]);
+  const order = edges.map((_, i) => [west(i), i]).sort((one, other) => one[0] - other[0]).map(([, i]) => i);
+  const isNeighbour = (i, j) => Math.abs(i - j) === 1 || Math.abs(i - j) === count - 1;
+  for (let n = 0; n < count; n++) {
+    const i = order[n], [, ay, , by] = edges[i], end = east(i), south = Math.min(ay, by), north = Math.max(ay, by);
+    for (let m = n + 1; m < count && west(order[m]) <= end; m++) {
+      const j = order[m], [, cy, , dy] = edges[j];
+      if (Math.max(cy, dy) < south || Math.min(cy, dy) > north || isNeighbour(i, j)) continue;
+      if (isMeeting(edges[i], edges[j])) return true;
+    }
+  }
+  return false;
+}
+
 /** The edges of rings in strips of equal height, each edge in every strip that it touches. */
 function strips(rings, [, south, , north]) {
   const count = Math.min(512, rings.reduce((sum, ring) => sum + ring.length, 0)), height = (north - south) / count || 1;

@@ -1,10 +1,10 @@
 // The map: it pans and zooms by mouse, touch and keyboard, tells what is somewhere, and lets the author draw a place.
 
-import { $, el, link, say } from "./dom.js";
+import { $, el, keepPlace, link, say, terms } from "./dom.js";
 import { E7, boxOf, inWhole, unmercator, within } from "./geometry.js";
 import * as layers from "./layers.js";
-import { digitsOf, isSame, plain, words } from "./rules.js";
-import { now, standingOf, state } from "./state.js";
+import { ago, digitsOf, isSame, plain, words } from "./rules.js";
+import { isAuthor, now, operatorName, shownFleet, standingOf, state } from "./state.js";
 
 const NEAREST = 256, FARTHEST = 256 * 2 ** 21, FITTED = 256 * 2 ** 19, CLOSE = 256 * 2 ** 15;
 const REACH = 12, STILL = 5, STEP = 60;
@@ -62,6 +62,9 @@ export function fit(ids) {
   draw();
 }
 
+/** Brings the map into sight, where the page is narrow and scrolls. */
+export const reveal = () => canvas.scrollIntoView({ block: "nearest" });
+
 /** Shows all, unless somebody has moved the map already. */
 export function fitFirst() {
   if (!wasMoved) fit();
@@ -94,10 +97,10 @@ export function idOf(bytes) {
 /** The device of a row. */
 export const deviceOf = (row) => idOf(state.fleet.id.subarray(row * 16, row * 16 + 16));
 
-/** The row of a device, -1 where there is none: the fleet ascends by identifier. */
-export function rowOf(device) {
-  const { id, count } = state.fleet, key = digitsOf(device).match(/../g).map((it) => parseInt(it, 16));
-  let low = 0, high = count - 1;
+/** The row of an operator's device, -1 where there is none: each fleet ascends by identifier. */
+export function rowOf(device, owner = 0) {
+  const { id, starts } = state.fleet, key = digitsOf(device).match(/../g).map((it) => parseInt(it, 16));
+  let low = starts[owner], high = (starts[owner + 1] ?? 0) - 1;
   while (low <= high) {
     const middle = (low + high) >> 1;
     let sign = 0;
@@ -109,28 +112,45 @@ export function rowOf(device) {
   return -1;
 }
 
-function close() {
+/** Takes away what is told of a vehicle or a place. */
+export function close() {
   picked = null;
   $("picked").hidden = true;
   draw();
 }
 
 function tell(...parts) {
-  $("picked").replaceChildren(...parts, link("Close", close));
+  const place = keepPlace($("picked"), "#picked");
+  $("picked").replaceChildren(...parts.filter(Boolean), link("Close", close, { "data-key": "close" }));
   $("picked").hidden = false;
+  place();
   draw();
 }
 
+/** A moment in local time and in the form of RFC 3339, and how long ago it was. */
+function moment(t) {
+  const text = new Date(t).toISOString();
+  return el("span", {}, `${state.clock.when(t)}, ${ago(Math.max(0, now() - t))} `,
+    el("time", { className: "small", dateTime: text }, text));
+}
+
+/** Tells of a vehicle: its type and state, since when and after what, its last report where that is a later one, and where it is. */
 function tellVehicle(row) {
-  const fleet = state.fleet, kind = fleet.kinds[fleet.kind[row]], hours = Math.max(0, now() - fleet.since[row]) / 3_600_000;
+  const fleet = state.fleet, kind = fleet.kinds[fleet.kind[row]], owner = state.me.operators?.[fleet.owner[row]];
   const places = state.places.filter((_, index) => fleet.inside[index]?.[row]).map((it) => it.name);
-  const stood = hours < 72 ? `${hours.toFixed(1)} hours` : `${(hours / 24).toFixed(1)} days`;
+  const since = fleet.since[row], stamp = fleet.stamp[row];
   picked = row;
   tell(
     el("b", {}, `${plain(kind.type)}, ${plain(kind.state)}`),
+    isAuthor() && owner ? el("div", {}, `of ${operatorName(owner.id)}`) : null,
     el("div", { className: "small" }, deviceOf(row)),
-    el("div", {}, `${stood} in this state; reported ${state.clock.when(fleet.stamp[row])}`),
-    el("div", {}, words(places, "and") || "in no published place", state.offenders.has(row) ? "; breaks a rule" : ""),
+    terms([
+      ["Since", moment(since)],
+      ...(kind.events?.length ? [["After", words(kind.events.map(plain), "and")]] : []),
+      ...(stamp === since ? [] : [["Reported", moment(stamp)]]),
+      ["Where", words(places, "and") || "in no published place"],
+    ]),
+    state.offenders.has(row) ? el("div", { className: "tag bad" }, "✗ breaks a rule") : null,
   );
 }
 
@@ -149,7 +169,7 @@ function tellPlaces([x, y]) {
 
 /** Tells of the nearest vehicle within reach of a pixel, else of the places there. */
 function pick(px, py) {
-  const fleet = state.fleet;
+  const fleet = shownFleet();
   let best = REACH * REACH, nearest = -1;
   for (let row = 0; fleet && row < fleet.count; row++) {
     const [x, y] = layers.toPixel(view, fleet.x[row], fleet.y[row]), distance = (x - px) ** 2 + (y - py) ** 2;
@@ -157,25 +177,29 @@ function pick(px, py) {
   }
   if (nearest >= 0) tellVehicle(nearest);
   else tellPlaces(layers.toSquare(view, px, py));
+  $("picked").scrollTop = 0;
 }
 
-/** Goes to a vehicle by its device, and tells of it. */
-export function showDevice(device) {
-  const row = state.fleet ? rowOf(device) : -1;
+/** Goes to an operator's vehicle by its device, and tells of it. */
+export function showDevice(device, owner = 0) {
+  const row = shownFleet() ? rowOf(device, owner) : -1;
   if (row < 0) return say("That vehicle isn’t on the map.");
   view.x = state.fleet.x[row];
   view.y = state.fleet.y[row];
   view.scale = Math.max(view.scale, CLOSE);
   wasMoved = true;
   tellVehicle(row);
+  $("picked").scrollTop = 0;
+  reveal();
 }
 
 /** Keeps the vehicle that is told of, over a new reading of the fleet. */
 export function takeFleet(fleet) {
-  const device = picked === null ? null : deviceOf(picked);
+  const device = picked === null ? null : deviceOf(picked), owner = picked === null ? 0 : state.fleet.owner[picked];
   state.fleet = fleet;
+  state.fleetAt = Date.now();
   if (device === null) return;
-  const row = rowOf(device);
+  const row = rowOf(device, owner);
   if (row < 0) close();
   else tellVehicle(row);
 }

@@ -7,7 +7,7 @@ import { boxOf, inSquare, inWhole, polygonsOf } from "./geometry.js";
 import * as map from "./map.js";
 import { digitsOf, number } from "./rules.js";
 import * as server from "./server.js";
-import { SETTINGS, isAuthor, now, state, takeWithdrawals } from "./state.js";
+import { SETTINGS, isAuthor, isEveryone, now, oversight, state, takeWithdrawals } from "./state.js";
 import { Clock } from "./zone.js";
 
 const DAY = 86_400_000, QUARTER = 900_000, MOST_OFTEN_READ = 20_000;
@@ -42,19 +42,51 @@ function takeReports(told) {
   state.reports = new Map(told.policies.map((it) => [digitsOf(it.policy_id), it.rules]));
 }
 
+/** Takes whom the server says that it is, where it tells: what the author is shown changes with the configuration. */
+function takeMe(told) {
+  if (told?.role !== state.me.role) return;
+  if (JSON.stringify(told.operators) !== JSON.stringify(state.me.operators)) state.fleet = state.standings = null;
+  if (told.oversight !== "verdicts" && told.oversight !== "vehicles") state.standings = null;
+  if (isAuthor() && told.oversight !== "vehicles") state.fleet = null;
+  state.me = told;
+}
+
+/** What the author is told of the operators, null where it is told nothing. */
+async function readStandings() {
+  if (oversight() === "none") return null;
+  try {
+    return await server.ask("GET", "app/compliance");
+  } catch (fault) {
+    // The configuration is another than before, which the next round is told.
+    if (fault.code === "role") return null;
+    throw fault;
+  }
+}
+
+/** Takes an operator's verdicts, or what the author is told of the operators: whether they are of a later publication. */
+function takeVerdicts(told) {
+  if (!isAuthor()) {
+    if (told.revision === state.revision) takeReports(told);
+    return told.revision !== state.revision;
+  }
+  state.standings = told;
+  return told?.operators.some((it) => it.compliance?.revision > state.revision) || false;
+}
+
 /**
- * Reads what is published, and for an operator its verdicts and its fleet. Answers what is to be said, and whether a publication
- * came in between, so that the verdicts are of another revision; null where it was dropped.
+ * Reads what is published, an operator's verdicts and fleet, for the author how the operators stand. Answers what is to be said,
+ * and whether a publication came in between, so that the verdicts are of another revision; null where it was dropped.
  */
 async function readCity(isAsked) {
   const mine = ++turn, isDropped = () => mine !== turn;
-  let isBehind = false;
-  const verdicts = isAuthor() ? null : early ? Promise.resolve(early) : server.ask("GET", "compliance");
+  const asked = [server.ask("GET", "policies"), server.askIfThere("app/withdrawals"), server.askIfThere("app/whoami")];
+  const verdicts = isAuthor() ? readStandings() : early ? Promise.resolve(early) : server.ask("GET", "compliance");
   early = null;
-  verdicts?.catch(() => {});
-  const [told, withdrawals] = await Promise.all([server.ask("GET", "policies"), server.askIfThere("app/withdrawals")]);
+  verdicts.catch(() => {});
+  const [told, withdrawals, me] = await Promise.all(asked);
   const hasBegunAnew = told.revision < state.revision, places = await readPlaces(told, isAsked);
   if (isDropped()) return null;
+  if (me) takeMe(me);
   if (places) state.places = places;
   state.policies = told.policies;
   state.revision = told.revision;
@@ -65,27 +97,54 @@ async function readCity(isAsked) {
   showSpan();
   cards.render();
   map.draw();
-  if (verdicts) {
-    readFleet(isAsked || places !== null);
-    const reports = await verdicts;
-    if (isDropped()) return null;
-    isBehind = reports.revision !== state.revision;
-    if (!isBehind) takeReports(reports);
-    cards.render();
-    map.draw();
-  }
+  readFleet(isAsked || places !== null);
+  // Nothing was asked for where the configuration showed the author nothing before.
+  const reports = await verdicts ?? await readStandings();
+  if (isDropped()) return null;
+  const isBehind = takeVerdicts(reports);
+  cards.render();
+  map.draw();
   return { news: hasBegunAnew ? ANEW : "", isBehind };
 }
 
-/** Reads the fleet beside the page; a large one only where it is asked for, or where places have changed. */
+/** Reads what everyone is told. Where the server tells it no longer, the form to sign in is left alone. */
+async function readPublic() {
+  const mine = ++turn, isDropped = () => mine !== turn;
+  const policies = await server.askPublic("policies"), isNew = !state.readAt || policies?.at !== state.revision;
+  const places = policies && isNew ? await server.askPublic("geographies") : null;
+  if (isDropped()) return null;
+  if (!policies || (isNew && !places)) {
+    clear();
+    showWork();
+    return null;
+  }
+  if (places) state.places = places.list.map(asPlace);
+  state.policies = policies.list;
+  state.revision = policies.at;
+  state.readAt = Date.now();
+  showSpan();
+  cards.render();
+  map.draw();
+  return { news: "", isBehind: false };
+}
+
+/** Where the vehicles are asked for: an operator's own, the author's one operator after another, as far as it is shown them. */
+function fleetTargets() {
+  if (!isAuthor()) return ["fleet/vehicles"];
+  return oversight() === "vehicles" ? state.me.operators.map((it) => `app/fleet/${it.id}`) : [];
+}
+
+/** Reads the vehicles beside the page; many only where they are asked for, or where places have changed. */
 function readFleet(isAsked) {
-  if (!isAsked && (worker || state.fleet?.count >= MOST_OFTEN_READ)) return;
+  const targets = fleetTargets();
+  if (!targets.length || (!isAsked && (worker || state.fleet?.count >= MOST_OFTEN_READ))) return;
   worker?.terminate();
   const mine = worker = new Worker("fleet.js", { type: "module" });
   mine.onmessage = ({ data }) => {
     if (mine !== worker) return;
     if (data.progress) return say(`Reading the fleet: ${number(data.progress)} vehicles so far…`);
     stopReading();
+    if (data.fault && isAuthor() && data.fault.code === "role") return;
     if (data.fault) return fail(new server.Refused(data.fault.status, data.fault.code));
     takeFleet(data.fleet);
   };
@@ -93,7 +152,7 @@ function readFleet(isAsked) {
     stopReading();
     say("The fleet can’t be read in this browser.", true);
   };
-  mine.postMessage({ header: server.header(), places: state.places.map((it) => inWhole(it.polygons)) });
+  mine.postMessage({ header: server.header(), places: state.places.map((it) => inWhole(it.polygons)), targets });
 }
 
 function stopReading() {
@@ -106,6 +165,7 @@ function takeFleet(fleet) {
   map.takeFleet(fleet);
   if ($("say").textContent.startsWith("Reading the fleet")) say("");
   cards.render();
+  author.foreseeSoon();
   if (isFirst) map.fitFirst();
   map.draw();
 }
@@ -129,7 +189,7 @@ async function refresh(isAsked = false) {
   if (isReading && !isAsked) return;
   isReading = true;
   clearTimeout(timer);
-  const reading = readCity(isAsked), mine = turn;
+  const reading = isEveryone() ? readPublic() : readCity(isAsked), mine = turn;
   try {
     const told = await reading;
     if (told === null) return;
@@ -174,9 +234,13 @@ async function whoAmI() {
   }
 }
 
-function showWork(isShown) {
-  $("enter").hidden = isShown;
-  $("work").hidden = $("who").hidden = $("actions").hidden = !isShown;
+/** Shows the form to sign in to whoever has no access token, and the work to whom something is told: to everyone both. */
+function showWork() {
+  const isTold = state.me !== null;
+  $("enter").hidden = isTold && !isEveryone();
+  $("enter").classList.toggle("strip", isEveryone());
+  $("work").hidden = $("who").hidden = $("actions").hidden = !isTold;
+  $("leave").hidden = isEveryone();
 }
 
 /** Forgets what was told to whoever was here before. */
@@ -184,52 +248,83 @@ function clear() {
   stopReading();
   turn++;
   Object.assign(state, { me: null, policies: [], places: [], draftPlaces: [], drafts: [], revision: 0, readAt: 0, judgedAt: 0,
-    reports: new Map(), fleet: null, moment: null, shownRule: null, shownPlaces: null });
+    reports: new Map(), standings: null, fleet: null, moment: null, shownRule: null, shownPlaces: null,
+    shownOperator: null });
 }
 
-async function enter() {
-  say("Asking the server…");
+/** Begins to show what somebody, or everyone, is told: nothing at first, and nothing that another was told before. */
+async function begin(me, clock, who) {
   clear();
-  const me = await whoAmI();
-  server.keep();
   state.me = me;
-  state.clock = new Clock(me.zone || state.settings.zone);
-  $("who").textContent = isAuthor() ? "the city’s author" : ownName();
+  state.clock = clock;
+  $("who").textContent = who;
   author.show(isAuthor());
-  showWork(true);
-  say("");
+  cards.render();
+  map.close();
+  showWork();
   retry = 0;
   await refresh(true);
   map.fit();
 }
 
+async function enter(isDropped) {
+  say("Asking the server…");
+  const me = await whoAmI();
+  if (isDropped()) return;
+  server.keep();
+  say("");
+  await begin(me, new Clock(me.zone || state.settings.zone), me.role === "author" ? "the city’s author" : ownName(me));
+}
+
+/** Shows what everyone is told, where the server tells it; the form to sign in stays above that. What was said stays too. */
+async function lookAround() {
+  const mine = signings, isDropped = () => mine !== signings || state.me !== null;
+  try {
+    if (isDropped() || !await server.askPublic("policies") || isDropped()) return;
+  } catch {
+    // The form is there all the same.
+    setTimeout(lookAround, RETRY_LAST);
+    return;
+  }
+  const said = $("say").textContent, isBad = $("say").classList.contains("bad");
+  await begin({ role: "everyone" }, new Clock(state.settings.zone, true), "what everyone is told");
+  if (said && !$("say").textContent) say(said, isBad);
+}
+
 /** The name that the server tells of an operator, or that the settings give, or the front of its identifier. */
-function ownName() {
-  const { id, name } = state.me;
+function ownName({ id, name }) {
   if (!id) return "an operator";
   const set = Object.entries(state.settings.operators).find(([key]) => digitsOf(key) === digitsOf(id))?.[1];
   return `operator ${name || set || id.slice(0, 8)}`;
 }
 
-/** Leads out, and says why. What stands in a form stays there. */
+/** Leads out, and says why, to what everyone is told. What stands in a form stays there. */
 function leave(why = "", isKept = false) {
   if (!isKept) server.forget();
-  clearTimeout(timer);
-  clear();
-  showWork(false);
+  if (!isEveryone()) {
+    clearTimeout(timer);
+    clear();
+    showWork();
+  }
   $("token").focus();
   say(why, why !== "");
+  if (!isKept) lookAround();
 }
+
+// How often somebody has begun to sign in: what an earlier one brings later is dropped. And when it is tried again.
+let signings = 0, signTimer = 0;
 
 /** Signs in by the token that is taken. A server that is gone is asked again, by the same token. */
 async function signIn() {
-  clearTimeout(timer);
+  const mine = ++signings, isDropped = () => mine !== signings;
+  clearTimeout(signTimer);
   try {
-    await enter();
+    await enter(isDropped);
   } catch (fault) {
+    if (isDropped()) return;
     const isGone = fault.code === "unreachable";
     leave(isGone ? `${fault.message} It is asked again in ${RETRY_FIRST / 1000} seconds.` : fault.message, isGone);
-    if (isGone) timer = setTimeout(signIn, RETRY_FIRST);
+    if (isGone) signTimer = setTimeout(signIn, RETRY_FIRST);
   }
 }
 
@@ -254,6 +349,7 @@ function showMoment() {
 }
 
 function setMoment(t) {
+  if (t !== state.moment) map.close();
   state.moment = t;
   showMoment();
   cards.render();
@@ -293,7 +389,7 @@ function bind() {
     signIn();
   };
   $("leave").onclick = () => {
-    leave();
+    server.forget();
     location.reload();
   };
   $("refresh").onclick = () => {
@@ -307,14 +403,19 @@ function bind() {
   author.start(() => refresh(true), fail);
   bindMoment();
   map.start(showAll);
+  cards.start();
+  // The legend has marks in the colours of the page's scheme.
+  matchMedia("(prefers-color-scheme: dark)").addEventListener("change", () => state.me && cards.render());
 }
 
-async function begin() {
+async function load() {
   state.settings = await server.settings(SETTINGS);
   $("city").textContent = document.title = state.settings.city;
   $("attribution").textContent = state.settings.tiles ? state.settings.attribution : "";
-  if (server.hasToken()) await signIn();
+  // Somebody may have signed in before the settings came.
+  if (server.hasToken() && !signings) await signIn();
+  else if (!signings) await lookAround();
 }
 
 bind();
-begin();
+load();

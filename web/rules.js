@@ -1,5 +1,5 @@
-// What policies and rules mean: whether a policy is in force, what a rule catches, and both in words. docs/PROTOCOL.md has the
-// meanings; nothing here asks a server or touches the page.
+// What policies and rules mean: whether a policy is in force, what a rule catches, how operators stand, and all of it in words.
+// docs/PROTOCOL.md has the meanings; nothing here asks a server or touches the page.
 
 export const DAYS = ["sun", "mon", "tue", "wed", "thu", "fri", "sat"];
 const UNITS = { seconds: 1_000, minutes: 60_000, hours: 3_600_000, days: 86_400_000 };
@@ -9,7 +9,26 @@ export const digitsOf = (id) => String(id).toLowerCase().replace(/^urn:uuid:|[{}
 export const isSame = (one, other) => digitsOf(one) === digitsOf(other);
 
 /** Whether the server judges a rule; it keeps and serves every other. */
-export const isJudged = (rule) => rule.rule_type === "count" || (rule.rule_type === "time" && rule.rule_units in UNITS);
+export const isJudged = (rule) =>
+  rule.rule_type === "count" || (rule.rule_type === "time" && Object.hasOwn(UNITS, rule.rule_units));
+
+// --- The words of MDS ---------------------------------------------------------------------------------------------------
+
+// The vehicle types, propulsion types, states and events of MDS 2.0 (its General Information and its modes).
+export const TYPES = ["bicycle", "bus", "car", "cargo_bicycle", "delivery_robot", "moped", "motorcycle", "other",
+  "scooter_seated", "scooter_standing", "truck"];
+export const PROPULSIONS = ["combustion", "combustion_diesel", "electric", "electric_assist", "human", "hybrid",
+  "hydrogen_fuel_cell", "plug_in_hybrid"];
+export const STATES = ["available", "elsewhere", "missing", "non_contactable", "non_operational", "on_trip", "removed",
+  "reserved", "stopped"];
+export const EVENTS = ["agency_drop_off", "agency_pick_up", "battery_charged", "battery_low", "changed_geographies",
+  "charging_end", "charging_start", "comms_lost", "comms_restored", "compliance_pick_up", "customer_cancellation",
+  "decommissioned", "driver_cancellation", "fueling_end", "fueling_start", "located", "maintenance", "maintenance_end",
+  "maintenance_pick_up", "not_located", "off_hours", "on_hours", "order_drop_off", "order_pick_up", "passenger_cancellation",
+  "provider_cancellation", "provider_drop_off", "rebalance_pick_up", "recommission", "remote_end", "remote_start",
+  "reservation_cancel", "reservation_start", "reservation_stop", "service_end", "service_start", "system_resume",
+  "system_suspend", "trip_cancel", "trip_end", "trip_enter_jurisdiction", "trip_leave_jurisdiction", "trip_pause",
+  "trip_resume", "trip_start", "trip_stop", "unspecified"];
 
 // --- In force or not ----------------------------------------------------------------------------------------------------
 
@@ -119,21 +138,33 @@ function caughtBy(policy, t, { fleet, places, clock }) {
   return rules;
 }
 
+/** How a rule stands by the vehicles that it catches: `{status, measure, rows}`; `rows` are those that the measure counts. */
+function verdictOf(rule, { isLive, caught }, t, { since }) {
+  if (!isJudged(rule)) return { status: "not_evaluated", measure: 0, rows: [] };
+  if (!isLive) return { status: "inactive", measure: 0, rows: [] };
+  if (rule.rule_type === "count") {
+    return { status: isWithin(rule, caught.length, 1) ? "ok" : "violated", measure: caught.length, rows: caught };
+  }
+  const rows = caught.filter((row) => !isWithin(rule, Math.max(0, t - since[row]), UNITS[rule.rule_units]));
+  return { status: rows.length ? "violated" : "ok", measure: rows.length, rows };
+}
+
 /**
  * What a page works out by itself for a moment at which the server wasn't asked, the fleet standing as it was last reported:
- * for each rule `{status, measure, rows, caught}`, where `rows` are the vehicles that the measure counts.
+ * for each rule its verdict, with the rows that it `caught`.
  */
 export function workOut(policy, t, city) {
+  return caughtBy(policy, t, city).map((it, index) =>
+    ({ ...verdictOf(policy.rules[index], it, t, city.fleet), caught: it.caught }));
+}
+
+/** The same for each of the operators whose fleets stand one behind the other: a list of verdicts for each rule. */
+export function workOutEach(policy, t, city) {
+  const { owner, starts } = city.fleet, count = starts.length - 1;
   return caughtBy(policy, t, city).map(({ isLive, caught }, index) => {
-    const rule = policy.rules[index];
-    if (!isJudged(rule)) return { status: "not_evaluated", measure: 0, rows: [], caught };
-    if (!isLive) return { status: "inactive", measure: 0, rows: [], caught };
-    if (rule.rule_type === "count") {
-      return { status: isWithin(rule, caught.length, 1) ? "ok" : "violated", measure: caught.length, rows: caught, caught };
-    }
-    const since = city.fleet.since, unit = UNITS[rule.rule_units];
-    const rows = caught.filter((row) => !isWithin(rule, Math.max(0, t - since[row]), unit));
-    return { status: rows.length ? "violated" : "ok", measure: rows.length, rows, caught };
+    const each = Array.from({ length: count }, () => []);
+    for (const row of caught) each[owner[row]].push(row);
+    return each.map((rows) => verdictOf(policy.rules[index], { isLive, caught: rows }, t, city.fleet));
   });
 }
 
@@ -168,10 +199,94 @@ export function vehicles(rule) {
   return parts.join(", ") + (states.length ? `: ${words(states.map(inState))}` : "");
 }
 
+const SPANS = [["day", 86_400_000], ["hour", 3_600_000], ["minute", 60_000]];
+
+/** How long ago something was, in words, to the minute: `3 hours 12 minutes ago`. */
+export function ago(milliseconds) {
+  const found = SPANS.findIndex(([, length]) => milliseconds >= length);
+  if (found < 0) return "less than a minute ago";
+  let left = milliseconds;
+  const parts = SPANS.slice(found, found + 2).map(([name, length]) => {
+    const count = Math.floor(left / length);
+    left -= count * length;
+    return count ? `${number(count)} ${name}${count === 1 ? "" : "s"}` : "";
+  });
+  return `${parts.filter(Boolean).join(" ")} ago`;
+}
+
+/** Whether a rule is open at all times. */
+export const isAlwaysOpen = (rule) => !rule.start_time && !rule.end_time && !rule.days?.length;
+
 /** When a rule is open, in words. */
 export function hours(rule) {
   const days = rule.days?.length ? words(rule.days.map((it) => it[0].toUpperCase() + it.slice(1)), "and") : "every day";
   if (!rule.start_time && !rule.end_time) return `${days}, all day`;
   const nextDay = opens(rule) > closes(rule) ? " on the next day" : "";
   return `${days}, ${rule.start_time || "00:00"} to ${rule.end_time || "23:59:59"}${nextDay}`;
+}
+
+/** For how long a vehicle stands that a rule of time counts, in words. */
+function tooLong(rule) {
+  const low = rule.minimum ?? null, high = rule.maximum ?? null, unit = rule.rule_units;
+  const under = rule.inclusive_minimum === false ? `${number(low)} ${unit} or less` : `less than ${number(low)} ${unit}`;
+  const over = rule.inclusive_maximum === false ? `${number(high)} ${unit} or more` : `more than ${number(high)} ${unit}`;
+  return [low === null ? null : under, high === null ? null : over].filter(Boolean).join(", or for ");
+}
+
+/** How many vehicles a rule counts against its bounds, in words: `12 of at most 10`. Empty where it isn't judged. */
+export function measured(rule, { status, measure }) {
+  if (status !== "ok" && status !== "violated") return "";
+  const text = bounds(rule), bound = text[0].toLowerCase() + text.slice(1);
+  if (rule.rule_type === "time") {
+    const count = measure ? `${number(measure)} vehicle${measure === 1 ? "" : "s"}` : "no vehicle", long = tooLong(rule);
+    return long ? `${count} for ${long}` : `${count}, for any time`;
+  }
+  return bound === "none" ? `${number(measure)}, none allowed` : `${number(measure)} of ${bound}`;
+}
+
+// --- How operators stand ------------------------------------------------------------------------------------------------
+
+const RANKS = ["violated", "ok", "inactive", "not_evaluated"];
+
+/** A row for each operator and each rule in force for it, in the order in which the server tells them. */
+export function standingRows(operators, policies) {
+  const known = new Map(policies.map((it) => [digitsOf(it.policy_id), it]));
+  return operators.flatMap(({ id, compliance }, owner) => (compliance?.policies || []).flatMap((report) => {
+    const policy = known.get(digitsOf(report.policy_id));
+    if (!policy) return [];
+    return report.rules.map((verdict, index) => ({ id, owner, policy, index, rule: policy.rules[index], verdict }));
+  }));
+}
+
+/** Rows in the order of `broken`, `operator` or `policy`: within the latter two the broken ones first too. */
+export function inOrder(rows, by, nameOf) {
+  const rank = (row) => RANKS.indexOf(row.verdict.status);
+  const key = by === "operator" ? (row) => nameOf(row.id) : by === "policy" ? (row) => row.policy.name : () => "";
+  return rows.map((row) => ({ row, text: String(key(row)), rank: rank(row) }))
+    .sort((one, other) => one.text.localeCompare(other.text) || one.rank - other.rank).map((it) => it.row);
+}
+
+// --- Likely mistakes ----------------------------------------------------------------------------------------------------
+
+/** What is likely a mistake in a rule, in sentences; `kinds` are those of the vehicles that the page knows. */
+function ruleWarnings(rule, kinds) {
+  const has = (member, value) => kinds.some((it) => it[member] === value);
+  const low = rule.minimum ?? null, high = rule.maximum ?? null;
+  const types = (Array.isArray(rule.vehicle_types) ? rule.vehicle_types : []).filter((it) => !has("type", it));
+  const states = Object.keys(rule.states || {}).filter((it) => !has("state", it) && !STATES.includes(it));
+  return [
+    ...types.filter((it) => !TYPES.includes(it)).map((it) => `“${it}” is no vehicle type of MDS, and no vehicle is known to be one`),
+    ...types.filter((it) => TYPES.includes(it) && kinds.length).map((it) => `no vehicle is a “${it}” now`),
+    ...states.map((it) => `“${it}” is no vehicle state of MDS, and no vehicle is known to be in it`),
+    ...(low === null && high === null ? ["it has no bound, so it is always kept"] : []),
+    ...(low !== null && high !== null && low > high ? [`nothing is at least ${number(low)} and at most ${number(high)}`] : []),
+  ].map((it) => `The rule “${rule.name}”: ${it}.`);
+}
+
+/** What is likely a mistake in a policy that the server would take all the same, in sentences. */
+export function warnings(policy, kinds) {
+  const { start_date: start, end_date: end, rules } = policy, isNever = end != null && end <= start;
+  const judged = (Array.isArray(rules) ? rules : []).filter((it) => it && isJudged(it));
+  return [...(isNever ? ["It ends before it starts, or as it starts, so that it is never in force."] : []),
+    ...judged.flatMap((it) => ruleWarnings(it, kinds))];
 }

@@ -10,7 +10,7 @@ export const SETTINGS = { city: "Rules for shared vehicles", tiles: "", attribut
 export const state = {
   settings: SETTINGS,
   clock: new Clock("Z"),
-  me: null, // {role, id?, zone?, operators?}
+  me: null, // {role, id?, zone?, operators?, oversight?}; the role is author, operator, or everyone: who has no access token
   policies: [],
   places: [], // as served, with `polygons`, `path` and `box`
   draftPlaces: [],
@@ -22,16 +22,32 @@ export const state = {
   areDraftsTold: false,
   judgedAt: 0,
   reports: new Map(), // of the server's compliance: verdicts by the digits of policies and rules
-  fleet: null,
+  standings: null, // {at, operators: [{id, compliance}, ..]}, which the author is told
+  fleet: null, // an operator's vehicles; the author's are all operators', those of each behind those of the one before it
+  fleetAt: 0,
   moment: null, // null is now
   shownRule: null,
   shownPlaces: null,
+  shownOperator: null, // the identifier to which the author's view is narrowed
   offenders: new Set(), // rows of the fleet
   caught: null, // one mark a row, of the rule that is shown
 };
 
 export const isAuthor = () => state.me?.role === "author";
+export const isEveryone = () => state.me?.role === "everyone";
 export const now = () => state.moment ?? Date.now();
+
+/** What the author is shown of the operators: `none`, `verdicts` or `vehicles`; `none` too where the server doesn't tell. */
+export const oversight = () => state.me?.oversight || "none";
+
+/** Whether the moment that is shown is over: nobody is told here what stood then. */
+export const isOver = () => state.moment !== null && state.moment < Date.now();
+
+/**
+ * The vehicles that may be shown for the moment that is shown. Those of now never stand for those of a moment that is over; an
+ * operator may see what would be if they stood still until a moment to come.
+ */
+export const shownFleet = () => (state.moment === null || (!isOver() && !isAuthor()) ? state.fleet : null);
 
 /** How a policy stands at a moment, by all that is known. */
 export function standingOf(policy, t) {

@@ -50,13 +50,18 @@ export function zone(text) {
 const LONG = { timeZone: "UTC", weekday: "short", day: "numeric", month: "short", year: "numeric", hour: "2-digit",
   minute: "2-digit" };
 const format = new Intl.DateTimeFormat(undefined, LONG);
+const seconds = new Intl.DateTimeFormat(undefined, { timeZone: "UTC", hour: "2-digit", minute: "2-digit", second: "2-digit" });
 
-/** Moments in words and in fields of a form, in one zone. Where none is told, in UTC, and `isTold` is false. */
+/** How far the browser's own zone is from UTC. */
+const ownOffset = (t) => -new Date(t).getTimezoneOffset() * MINUTE;
+
+/** Moments in words and in fields of a form, in one zone. Where none is told, in UTC or the reader's own, and `isTold` is false. */
 export class Clock {
-  constructor(text) {
+  constructor(text, isOwn = false) {
     const offset = zone(text);
     this.isTold = offset !== null;
-    this.offset = offset || (() => 0);
+    this.isOwn = isOwn && !this.isTold;
+    this.offset = offset || (isOwn ? ownOffset : () => 0);
   }
 
   /** The moment in words, in local time. */
@@ -64,12 +69,18 @@ export class Clock {
     return format.format(t + this.offset(t));
   }
 
+  /** The time of day of the moment to the second, in local time. */
+  time(t) {
+    return seconds.format(t + this.offset(t));
+  }
+
   /** How far local time is from UTC, in words. */
   name(t) {
-    if (!this.isTold) return "UTC: the city’s zone isn’t told, so hours of rules may be judged wrong here";
+    if (!this.isTold && !this.isOwn) return "UTC: the city’s zone isn’t told, so hours of rules may be judged wrong here";
     const minutes = Math.abs(this.offset(t) / MINUTE), rest = minutes % 60;
     const hours = `${this.offset(t) < 0 ? "−" : "+"}${Math.floor(minutes / 60)}`;
-    return `city time, UTC${hours}${rest ? ":" + String(rest).padStart(2, "0") : ""}`;
+    const name = this.isOwn ? "your own time" : "city time";
+    return `${name}, UTC${hours}${rest ? ":" + String(rest).padStart(2, "0") : ""}`;
   }
 
   /** The value of a field `datetime-local`. */

@@ -1,7 +1,7 @@
 // Whether everybody can use the page: names of controls, contrast, narrow screens, the keyboard, and what the page is served with.
 
-import { City } from "./city.mjs";
-import { clean, told } from "./looking.mjs";
+import { City, isKeeping } from "./city.mjs";
+import { clean, fillForm, told } from "./looking.mjs";
 
 /** Controls and pictures without a name, by the tree that a screen reader is given. */
 async function unnamed(page) {
@@ -90,10 +90,10 @@ async function keyboard(browser, city, { is, ok }) {
   is("the token's field is the second", await page.run(() => document.activeElement.id), "token");
   await page.type("city");
   await page.key("Enter", "\r");
-  await page.until(() => document.querySelectorAll("article").length === 6);
+  await page.until(() => document.querySelectorAll("article").length === 6 && document.querySelectorAll("#legend li").length > 1);
   await page.mouse(2, 2);
-  const order = await tabs(page, 18);
-  const wanted = ["refresh", "leave", "map", "in", "out", "fit", "slider", "moment", "now", "draw", "write"];
+  const order = await tabs(page, 50);
+  const wanted = ["refresh", "leave", "byoperator", "bypolicy", "order", "brokenalone", "csv", "Show on the map", "map", "in", "out", "fit", "slider", "moment", "now", "draw", "write"];
   const places = wanted.map((it) => order.findIndex((name) => name.startsWith(it)));
   ok("Tab goes through the page in its order", places.every((it, n) => it >= 0 && (!n || it > places[n - 1])), order);
   is("each shows that it is in focus", order.filter((it) => /WITHOUT/.test(it)).join(), "");
@@ -142,8 +142,34 @@ async function whole(browser, city, { is }) {
     await page.run(() => document.querySelectorAll("details").forEach((it) => { it.open = true; }));
     await page.run(() => new Promise((then) => { setTimeout(then, 100); }));
     is(`360 px, no word is broken: ${token}`, await brokenWords(page), "");
+    if (token === "city") {
+      await page.click("#write");
+      await fillForm(page, "policyform", { name: "Narrow", maximum: 1500, where: ["Downtown"] });
+      await told(page, "#foresighttable", /At most 1,500/);
+      await page.run(() => document.querySelectorAll("#policyform details").forEach((it) => { it.open = true; }));
+      await page.run(() => new Promise((then) => { setTimeout(then, 100); }));
+      is("360 px, no word is broken: a policy's form", await brokenWords(page), "");
+    }
     await page.close();
   }
+}
+
+/** What whoever has no access token sees, where everyone is told what is published. */
+async function everyone(browser, program, tally) {
+  const city = await City.start(program, { seconds: 600, changes: { public: true } });
+  const page = await browser.open(city.url), phone = await browser.open(city.url, { width: 360, height: 740, isMobile: true });
+  for (const it of [page, phone]) {
+    await told(it, "article h3", /Downtown/);
+    await it.run(() => document.querySelectorAll("details").forEach((one) => { one.open = true; }));
+  }
+  await state(page, "everyone", tally);
+  tally.is("360 px, no word is broken: everyone", await brokenWords(phone), "");
+  const order = await tabs(page, 24), places = ["token", "map", "slider", "now"].map((it) => order.findIndex((name) => name.startsWith(it)));
+  tally.ok("Tab goes to the form, the map and the moment", places.every((it, n) => it >= 0 && (!n || it > places[n - 1])), order);
+  tally.is("each shows that it is in focus: everyone", order.filter((it) => /WITHOUT/.test(it)).join(), "");
+  await page.close();
+  await phone.close();
+  await city.close();
 }
 
 /** What the page's files are served with. */
@@ -165,7 +191,7 @@ async function served(city, { is, ok }) {
 }
 
 export default async function access(browser, program, tally) {
-  const city = await City.start(program, { seconds: 600, fill: "fleets" });
+  const city = await City.start(program, { isTold: true, seconds: 600, fill: "fleets", changes: { oversight: "vehicles" } });
   const page = await browser.open(city.url);
   await state(page, "signing in", tally);
   await page.signIn("scoot");
@@ -180,9 +206,12 @@ export default async function access(browser, program, tally) {
   await page.run(() => sessionStorage.clear());
   await page.go(city.url);
   await page.signIn("city");
+  await page.until(() => document.querySelectorAll("#legend li").length > 1);
   await page.run(() => document.querySelectorAll("details").forEach((it) => { it.open = true; }));
+  await state(page, "the author", tally);
   for (const form of ["write", "draw"]) {
     await page.click(`#${form}`);
+    await page.run(() => document.querySelectorAll("#authoring details").forEach((it) => { it.open = true; }));
     await state(page, `the author: ${form}`, tally);
   }
   await page.run(() => document.querySelector(".withdraw").click());
@@ -194,4 +223,5 @@ export default async function access(browser, program, tally) {
   await whole(browser, city, tally);
   await served(city, tally);
   await city.close();
+  if (isKeeping(program)) await everyone(browser, program, tally);
 }

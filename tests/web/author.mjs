@@ -2,23 +2,17 @@
 
 import { wait } from "./browser.mjs";
 import { City, isKeeping } from "./city.mjs";
-import { cardOf, clean, inState, press, standingOf, texts, told } from "./looking.mjs";
+import { cardOf, clean, fillForm, inState, press, standingOf, texts, tickOnly, tickedIn, told } from "./looking.mjs";
 
 const SCRIPT = "<img src=x onerror=\"document.title='broken into'\"><script>document.title='broken into'</script>";
 
 /** Fills a form's fields and saves it; answers what the page then says. */
 async function save(page, form, fields) {
-  await page.run((id, values) => {
-    const it = document.getElementById(id);
-    for (const [name, value] of Object.entries(values)) {
-      const field = it.elements[name];
-      if (Array.isArray(value)) for (const option of field.options) option.selected = value.includes(option.textContent);
-      else field.value = value;
-      field.dispatchEvent(new Event("input", { bubbles: true }));
-    }
+  await fillForm(page, form, fields);
+  await page.run((id) => {
     document.getElementById("say").textContent = "";
-    it.requestSubmit();
-  }, form, fields);
+    document.getElementById(id).requestSubmit();
+  }, form);
   return told(page, "#say", /./);
 }
 
@@ -74,11 +68,15 @@ async function life(page, city, { is, ok }) {
   const name = `${SCRIPT} ban`, next = "Successor of the ban";
   ok("a policy without a place is told", /Choose where/.test(await policy(page, { name, maximum: 0 })));
   ok("a policy by form is kept", /draft is kept/.test(await save(page, "policyform", { where: ["By mouse (draft)"] })));
-  await page.run(() => {
-    for (const it of document.querySelectorAll("#drafts input")) if (/By mouse/.test(it.closest("tr").textContent)) it.click();
-  });
+  is("no draft is ticked to be published before somebody does", await tickedIn(page, "#drafts"), "");
+  ok("nothing ticked is nothing published", /Tick a draft/.test(await page.run(() => {
+    document.getElementById("publish").click();
+    return document.getElementById("say").textContent;
+  })));
+  await tickOnly(page, "#drafts", ["By keyboard", "Pasted", name]);
   ok("a publication without its place is told in words", /place of a rule is neither published/.test(await publish(page)));
-  await page.run(() => document.querySelectorAll("#drafts input:not(:checked)").forEach((it) => it.click()));
+  is("what is ticked stays so when the drafts are read anew", await tickedIn(page, "#drafts"), `${name},By keyboard,Pasted`);
+  await tickOnly(page, "#drafts", ["By keyboard", "By mouse", "Pasted", name]);
   ok("it is published", /^Published/.test(await publish(page)), await page.text("#say"));
   is("and in force", await standingOf(page, name), "in force");
   is("a script in a name stays text", await page.run(() => document.querySelectorAll("article img, article script").length), 0);
@@ -87,10 +85,12 @@ async function life(page, city, { is, ok }) {
   await press(page, name, "button.replace");
   is("its fields are its successor's", await page.run(() => {
     const it = document.getElementById("policyform").elements;
-    const where = it.where.selectedOptions[0].textContent;
-    return [it.name.value, it.rule.value, it.maximum.value, where, it.prev.selectedOptions.length].join();
-  }), `${name},,0,By mouse,1`);
+    return [it.name.value, it.rule.value, it.maximum.value].join();
+  }), `${name},,0`);
+  is("and so is what is ticked", [await tickedIn(page, "#where"), await tickedIn(page, "#prev"), await tickedIn(page, "#states")].join("; "),
+    `By mouse; ${name}; available,non operational,reserved`);
   await save(page, "policyform", { name: next, maximum: 5 });
+  await tickOnly(page, "#drafts", [next]);
   ok("it is replaced", /^Published/.test(await publish(page)), await page.text("#say"));
   is("and superseded", await standingOf(page, name), `superseded by “${next}”`);
   await press(page, next, "button.withdraw");
@@ -140,6 +140,41 @@ async function documents(page, city, { is, ok }) {
   is("and gone", (await city.ask("city", "GET", `/drafts/policies/${id}`)).status, 404);
 }
 
+/** What is likely a mistake is asked about before it is saved. */
+async function mistakes(page, { is, ok }) {
+  const asking = async (form, fields) => {
+    await page.run((id, values) => {
+      const it = document.getElementById(id);
+      for (const [name, value] of Object.entries(values)) {
+        it.elements[name].value = value;
+        it.elements[name].dispatchEvent(new Event("input", { bubbles: true }));
+      }
+      it.requestSubmit();
+    }, form, fields);
+    await page.until(() => document.getElementById("ask").open);
+    return page.text("#askbody li");
+  };
+  await page.click("#draw");
+  const said = await asking("placeform", { name: "Bow tie", geojson: "[[-122.6,45.5],[-122.5,45.6],[-122.5,45.5],[-122.6,45.6]]" });
+  ok("an outline that crosses itself is asked about", /crosses or touches itself/.test(said), said);
+  await page.click("#askno");
+  await wait(200);
+  is("a no keeps the form, and saves nothing", await page.run(() => document.getElementById("placeform").hidden), false);
+  await asking("placeform", {});
+  await page.click("#askyes");
+  ok("a yes saves it", /draft is kept/.test(await told(page, "#say", /draft is kept/)));
+  await page.click("#write");
+  await page.click("#where input");
+  const fields = { name: "Mistaken", minimum: 5, maximum: 3, othertypes: "scooter_stading", end: "2020-01-01T00:00" };
+  const list = await asking("policyform", fields);
+  ok("a policy's likely mistakes are asked about",
+    /never in force.*scooter_stading.*at least 5 and at most 3/.test(list), list);
+  await page.click("#askno");
+  await page.click("#policyform .cancel");
+  await page.run(() => document.querySelector('#drafts [aria-label="Drop the draft Bow tie"]').click());
+  await told(page, "#say", /dropped/);
+}
+
 export default async function author(browser, program, tally) {
   for (const isTold of isKeeping(program) ? [true] : [false, true]) {
     const city = await City.start(program, { seconds: 600, isTold });
@@ -147,7 +182,8 @@ export default async function author(browser, program, tally) {
     await page.signIn("city");
     await places(page, tally);
     await life(page, city, tally);
-    if (isTold) tally.is("the operators' names are told", await texts(page, "[name=who] option"), "Scoot,Wheels");
+    await mistakes(page, tally);
+    if (isTold) tally.is("the operators' names are told", await texts(page, "#forwhom label"), "Scoot,Wheels");
     if (!isTold || city.isKeeping) await documents(page, city, tally);
     tally.is("nothing of a visit is saved", await page.run(() => document.querySelectorAll("[download]").length), 0);
     await clean(page, city, tally, "the author", /status of 4(00|04|09|13) /);

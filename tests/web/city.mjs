@@ -51,17 +51,23 @@ export class City {
   static running = new Set();
 
   /** Starts them: `isTold` whether /app/ is answered, as ruffletuff always does, `seconds` between two rounds of the page, `fill` what
-   * they are filled with. */
-  static async start(program, { isTold = false, seconds = 2, fill = "policies" } = {}) {
+   * they are filled with, `changes` of the example's configuration. */
+  static async start(program, { isTold = false, seconds = 2, fill = "policies", changes = {} } = {}) {
     const it = new City();
     City.running.add(it);
     Object.assign(it, { program, isKeeping: isKeeping(program), folder: mkdtempSync(join(tmpdir(), "city-")), port: await freePort() });
-    it.configuration = example("city.json");
+    it.configuration = { ...example("city.json"), ...changes };
     await it.begin();
-    if (it.isKeeping) it.showOwnPage(seconds);
-    else await it.showPageBeside(isTold, seconds);
+    if (it.isKeeping && !await it.isBehind()) it.showOwnPage(seconds);
+    else await it.showPageBeside(isTold || it.isKeeping, seconds);
     if (fill !== "nothing") it.fill(fill);
     return it;
+  }
+
+  /** Whether the page of web/ is to be served beside: with BESIDE=1, or where the server doesn't tell how operators stand. */
+  async isBehind() {
+    this.url = `http://127.0.0.1:${this.port}`;
+    return process.env.BESIDE === "1" || (await this.ask("city", "GET", "/app/compliance")).status === 404;
   }
 
   /** The page that the server serves. Of its settings a browser is given another time between two rounds. */
@@ -76,7 +82,7 @@ export class City {
     const port = await freePort(), settings = join(this.folder, "settings.json"), usual = example("settings.json");
     this.title = usual.city;
     writeFileSync(settings, JSON.stringify({ ...usual, refresh_seconds: seconds }));
-    const told = isTold ? ["--app", join(EXAMPLE, "city.json")] : [];
+    const told = isTold ? ["--app", join(this.folder, "configuration.json")] : [];
     this.page = await ready("python3", ["-B", join(HERE, "serve.py"), `${port}`, `127.0.0.1:${this.port}`, "--settings", settings, ...told]);
     this.url = `http://127.0.0.1:${port}`;
   }

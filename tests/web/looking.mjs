@@ -16,6 +16,34 @@ export const press = (page, name, button) => page.run((it, what) => {
   card.querySelector(what).click();
 }, name, button);
 
+/** Ticks the check boxes of a part whose texts these are, and no other. */
+export const tickOnly = (page, part, wanted) => page.run((it, names) => {
+  for (const label of document.querySelector(it).querySelectorAll("label:has(input[type=checkbox])")) {
+    const box = label.querySelector("input");
+    if (box.checked !== names.includes(label.textContent.trim())) box.click();
+  }
+}, part, wanted);
+
+/** The texts of the check boxes of a part that are ticked, with commas between. */
+export const tickedIn = (page, part) => page.run((it) =>
+  [...document.querySelectorAll(`${it} input:checked`)].map((box) => box.closest("label").textContent.trim()).join(), part);
+
+/** Fills a form's fields, and ticks what a list names; answers once it is told of. */
+export const fillForm = (page, form, fields) => page.run((id, values) => {
+  const it = document.getElementById(id);
+  for (const [name, value] of Object.entries(values)) {
+    if (Array.isArray(value)) {
+      for (const label of it.querySelectorAll(`#${name} label:has(input[type=checkbox])`)) {
+        const box = label.querySelector("input");
+        if (box.checked !== value.includes(label.textContent.trim())) box.click();
+      }
+      continue;
+    }
+    it.elements[name].value = value;
+    it.elements[name].dispatchEvent(new Event("input", { bubbles: true }));
+  }
+}, form, fields);
+
 /** The texts of elements, with commas between. */
 export const texts = (page, selector) => page.run((it) =>
   [...document.querySelectorAll(it)].map((e) => e.textContent.trim()).join(), selector);
@@ -39,8 +67,10 @@ export async function told(page, selector, pattern) {
   return page.text(selector);
 }
 
-// What a browser writes by itself for an answer that isn't 200: for what mds_serve doesn't have, and where it is asked who somebody is.
-const USUAL = [/status of 404 .*\/app\/(whoami|withdrawals|drafts)$/, /status of 403 .*\/compliance$/];
+// What a browser writes by itself for an answer that isn't 200: for what mds_serve doesn't have, where it is asked who somebody
+// is, and where it is asked what everyone is told.
+const USUAL = [/status of 404 .*\/app\/(whoami|withdrawals|drafts)$/, /status of 403 .*\/compliance$/,
+  /status of 40[14] .*\/mds\/2\.0\/policies$/];
 
 /** Nothing on the console but what is usual and expected, nothing asked elsewhere, and no token in an address or kept for good. */
 export async function clean(page, city, { is }, who, ...expected) {

@@ -4,60 +4,22 @@
 // Prints a line for each N: milliseconds from signing in to the cards and to the fleet, of a frame while panning and of another
 // moment, megabytes of the heap and of the fleet as JSON.
 
-import { createServer } from "node:http";
-import { readFileSync, readdirSync } from "node:fs";
-import { extname, join } from "node:path";
 import { Browser } from "./browser.mjs";
-import { EXAMPLE, TOP, example } from "./city.mjs";
-
-const TYPES = { ".html": "text/html", ".css": "text/css", ".js": "text/javascript", ".json": "application/json" };
-const STATES = [["available", "trip_end"], ["available", "trip_end"], ["on_trip", "trip_start"], ["reserved", "reservation_start"],
-  ["non_operational", "maintenance"]];
-
-const documents = (kind) => readdirSync(EXAMPLE).filter((it) => it.startsWith(`${kind}-`)).map(example);
-
-/** A geography as a server serves it. */
-function served(geography) {
-  const coordinates = geography.geography_json.features.flatMap(({ geometry }) =>
-    (geometry.type === "Polygon" ? [geometry.coordinates] : geometry.coordinates));
-  const features = [{ type: "Feature", properties: null, geometry: { type: "MultiPolygon", coordinates } }];
-  return { ...geography, published_date: 1, geography_json: { type: "FeatureCollection", features } };
-}
+import { fleet, published, serve } from "./mock.mjs";
 
 /** The answers to a fleet of so many vehicles all over the city. */
 function answers(count) {
-  const policies = documents("policy").map((it) => ({ ...it, published_date: 1 })), geographies = documents("geography").map(served);
-  const vehicles = Array.from({ length: count }, (_, n) => {
-    const [vehicle_state, event] = STATES[n % STATES.length], turn = n * 0.6180339887 % 1, since = Date.now() - (n % 90) * 3_600_000;
-    return { device_id: `${n.toString(16).padStart(8, "0")}-0000-4000-8000-000000000000`, event_types: [event],
-      location: { lat: +(45.46 + 0.12 * (n / count)).toFixed(6), lng: +(-122.74 + 0.262 * turn).toFixed(6) },
-      propulsion_types: ["electric"], since, timestamp: since, vehicle_state, vehicle_type: n % 4 ? "scooter_standing" : "bicycle" };
-  });
-  const verdict = (rule) => ({ measure: 0, rule_id: rule.rule_id, status: "ok" });
+  const { policies, geographies } = published(), verdict = (rule) => ({ measure: 0, rule_id: rule.rule_id, status: "ok" });
   const reports = policies.map((it) => ({ policy_id: it.policy_id, rules: it.rules.map(verdict) }));
-  return {
+  const told = {
     "/policies": { policies, revision: 2 },
     "/geographies": { geographies, revision: 2 },
     "/compliance": { at: Date.now(), policies: reports, revision: 2, version: 2 },
-    "/fleet/vehicles": { vehicles },
+    "/fleet/vehicles": { vehicles: fleet(count) },
     "/app/whoami": { role: "operator", id: "e5ff2df2-12dd-5466-9b22-62ddabeff11a", zone: "PST8PDT,M3.2.0,M11.1.0" },
     "/app/withdrawals": { withdrawals: [] },
   };
-}
-
-function serve(count) {
-  const told = Object.fromEntries(Object.entries(answers(count)).map(([path, it]) => [path, JSON.stringify(it)]));
-  const server = createServer((request, response) => {
-    const name = request.url === "/" ? "/index.html" : request.url;
-    const body = told[request.url] ?? readFileSync(join(TOP, "web", name));
-    response.writeHead(200, { "content-type": TYPES[extname(name)] || "application/json" });
-    response.end(body);
-  });
-  return new Promise((done) => {
-    server.listen(0, "127.0.0.1", () => {
-      done({ server, url: `http://127.0.0.1:${server.address().port}`, bytes: told["/fleet/vehicles"].length });
-    });
-  });
+  return Object.fromEntries(Object.entries(told).map(([path, it]) => [path, JSON.stringify(it)]));
 }
 
 /** Signs in, and tells when the cards are there and when the fleet is. */
@@ -98,7 +60,8 @@ const steps = async (isPan) => {
 };
 
 for (const count of process.argv.slice(2).map(Number)) {
-  const { server, url, bytes } = await serve(count), browser = new Browser(), page = await browser.open(url);
+  const told = answers(count), bytes = told["/fleet/vehicles"].length, server = await serve((path) => told[path]);
+  const browser = new Browser(), page = await browser.open(server.url);
   const seen = await page.run(signIn);
   await page.run(() => new Promise((then) => { setTimeout(then, 500); }));
   const pan = await page.run(steps, true), moment = await page.run(steps, false);
@@ -109,6 +72,5 @@ for (const count of process.argv.slice(2).map(Number)) {
   console.log(JSON.stringify({ vehicles: count, ...seen, pan, moment, heap: megabytes(heap), json: megabytes(bytes) }));
   await browser.close();
   server.close();
-  server.closeAllConnections?.();
 }
 process.exit(0);

@@ -3,8 +3,9 @@
     serve.py PORT BACKEND [--settings FILE] [--app CONFIGURATION]
 
 Serves the files of web/, and passes every other request on to BACKEND, as 127.0.0.1:8080. Prints `ready`. FILE takes the place of
-web/settings.json. With --app it answers /app/whoami, /app/withdrawals and /app/drafts too, by the server's configuration and by what
-it has passed on, so that the page can be tried with a server that has these.
+web/settings.json. With --app it answers what is asked at /app/ by a GET too: who asks, withdrawals and drafts, and how operators stand,
+by the server's configuration, by what it has passed on and by what each operator is answered, so that the page can be tried with a
+server that has none of these.
 """
 
 import argparse
@@ -15,6 +16,7 @@ import os
 import re
 import sys
 import threading
+import time
 from http.server import BaseHTTPRequestHandler, ThreadingHTTPServer
 
 TOP = os.path.dirname(os.path.dirname(os.path.dirname(os.path.abspath(__file__))))
@@ -28,6 +30,7 @@ POLICY = (
     "default-src 'none'; script-src 'self'; worker-src 'self'; style-src 'self'; img-src 'self' data:{tiles}; connect-src 'self'; "
     "form-action 'none'; base-uri 'none'; frame-ancestors 'none'"
 )
+STANDING = re.compile(r"/app/(compliance|fleet)(?:/([^/?]+))?")
 DRAFT = re.compile(r"/drafts/(policies|geographies)/([^/?]+)")
 SECONDS = 120
 
@@ -64,20 +67,48 @@ class Backend:
 class App:
     """What a page asks beside the protocol, by the configuration and by what was passed on."""
 
-    def __init__(self, configuration, names):
-        self.configuration, self.names = configuration, names
+    def __init__(self, file, names):
+        self.file, self.names = file, names
         self.lock, self.withdrawn, self.drafts = threading.Lock(), {}, {}
+
+    @property
+    def configuration(self):
+        """The configuration, as it now is."""
+        with open(self.file, encoding="utf-8") as text:
+            return json.load(text)
+
+    @property
+    def oversight(self):
+        """What the author is shown."""
+        return self.configuration.get("oversight", "none")
 
     def named(self, operator):
         """An operator's identifier and name."""
-        return {"id": operator["id"], "name": self.names.get(operator["id"], operator["id"][:8])}
+        return {"id": operator["id"], "name": operator.get("name") or self.names.get(operator["id"], operator["id"][:8])}
 
     def whoami(self, token):
         """Whose token it is."""
-        zone, operators = self.configuration["zone"], self.configuration["operators"]
+        both, operators = {"oversight": self.oversight, "zone": self.configuration["zone"]}, self.configuration["operators"]
         if token == self.configuration["author"]:
-            return {"role": "author", "zone": zone, "operators": [self.named(it) for it in operators]}
-        return next({"role": "operator", "zone": zone, **self.named(it)} for it in operators if it["token"] == token)
+            return {"role": "author", **both, "operators": [self.named(it) for it in operators]}
+        return next({"role": "operator", **both, **self.named(it)} for it in operators if it["token"] == token)
+
+    def standing(self, kind, operator, token, backend):
+        """What an operator is answered to /compliance or /fleet/vehicles, for itself or for the author; with no operator named, and for the
+        author, what all of them are answered to the former."""
+        route, operators = {"compliance": "/compliance", "fleet": "/fleet/vehicles"}[kind], self.configuration["operators"]
+        if token != self.configuration["author"]:
+            return backend.ask("GET", route, f"Bearer {token}", None) if operator is None else (403, b'{"error":"role"}')
+        if self.oversight != "vehicles" and (kind == "fleet" or self.oversight == "none"):
+            return 403, b'{"error":"role"}'
+        if operator is None:
+            if kind == "fleet":
+                return 403, b'{"error":"role"}'
+            bodies = [json.loads(backend.ask("GET", route, f"Bearer {it['token']}", None)[1]) for it in operators]
+            told = [{"compliance": body, **self.named(it)} for it, body in zip(operators, bodies)]
+            return 200, json.dumps({"at": int(time.time() * 1000), "operators": told}).encode()
+        tokens = [it["token"] for it in operators if digits(it["id"]) == digits(operator)]
+        return backend.ask("GET", route, f"Bearer {tokens[0]}", None) if tokens else (404, b'{"error":"not_found"}')
 
     def note(self, method, target, body, answer):
         """Keeps what a request that was answered 200 has changed."""
@@ -101,6 +132,9 @@ class App:
         status, told = backend.ask("GET", "/policies", authorization, None)
         if status != 200:
             return status, told
+        standing = STANDING.fullmatch(target)
+        if standing:
+            return self.standing(standing[1], standing[2], token, backend)
         if target == "/app/whoami":
             return 200, json.dumps(self.whoami(token)).encode()
         if target == "/app/withdrawals":
@@ -208,11 +242,7 @@ def main():
     parser.add_argument("--settings")
     parser.add_argument("--app", metavar="CONFIGURATION")
     options = parser.parse_args()
-    configuration = None
-    if options.app:
-        with open(options.app, encoding="utf-8") as text:
-            configuration = json.load(text)
-    it = server(options.port, options.backend, options.settings, configuration)
+    it = server(options.port, options.backend, options.settings, options.app)
     print("ready", flush=True)
     it.serve_forever()
 

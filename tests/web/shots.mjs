@@ -1,15 +1,28 @@
 // The README's screenshots: node shots.mjs PROGRAM
 //
-// PROGRAM is a built ruffletuff, or mds_serve. Writes docs/page-operator.png and docs/page-author.png, each under 150 KB. Look at them.
+// PROGRAM is a built ruffletuff, or mds_serve. Writes docs/page-oversight.png, docs/page-operator.png and docs/page-author.png, each under
+// 150 KB. Look at them.
 
 import { readFileSync, statSync, writeFileSync } from "node:fs";
 import { join } from "node:path";
 import { Browser } from "./browser.mjs";
 import { City, TOP } from "./city.mjs";
+import { fillForm, told } from "./looking.mjs";
 import { smaller } from "./png.mjs";
 import { Tally } from "./tally.mjs";
 
 const MOST = 150_000, WIDTH = 1200, HEIGHT = 750;
+
+/** The author's first view: how operators stand, and where what breaks a rule is. */
+async function oversight(browser, city, file) {
+  const page = await browser.open(city.url, { width: WIDTH, height: HEIGHT });
+  await page.signIn("city");
+  await page.until(() => document.querySelectorAll("#legend li").length > 2);
+  await page.run(() => import("/map.js").then((it) => it.fit()));
+  await page.run(() => new Promise((then) => { setTimeout(then, 500); }));
+  await page.shot(file);
+  await page.close();
+}
 
 /** An operator, with what breaks a rule ringed and listed. */
 async function operator(browser, city, file) {
@@ -26,27 +39,30 @@ async function operator(browser, city, file) {
   await page.close();
 }
 
-/** The author, who draws a place and writes a policy for it. */
+/** The author, who has drawn a place and writes a policy for it: how operators would stand by it. */
 async function author(browser, city, file) {
   const page = await browser.open(city.url, { width: WIDTH, height: HEIGHT, isDark: true });
   await page.signIn("city");
+  await page.until(() => document.querySelectorAll("#legend li").length > 2);
   await page.click("#draw");
   const box = await page.run(() => document.getElementById("map").getBoundingClientRect().toJSON());
-  const corners = [[340, 200], [450, 180], [480, 260], [420, 330], [330, 290]];
+  const corners = [[300, 80], [390, 60], [420, 130], [370, 190], [290, 160]];
   for (const [x, y] of corners) await page.mouse(box.x + x, box.y + y);
-  await page.run(() => {
-    document.querySelector("#placeform [name=name]").value = "School street";
-    document.querySelector("#placeform [name=description]").value = "From the bridge to the school.";
-    document.getElementById("panel").scrollTop = 0;
-  });
+  await fillForm(page, "placeform", { name: "School street", description: "From the bridge to the school." });
+  await page.run(() => document.getElementById("placeform").requestSubmit());
+  await told(page, "#drafts", /School street/);
+  await page.click("#write");
+  await fillForm(page, "policyform", { name: "No crowd near the school", where: ["School street (draft)"], maximum: 100 });
+  await told(page, "#foresighttable", /At most 100/);
+  await page.run(() => document.getElementById("foresight").scrollIntoView({ block: "end" }));
   await page.run(() => new Promise((then) => { setTimeout(then, 500); }));
   await page.shot(file);
   await page.close();
 }
 
 const { ok, done } = new Tally();
-const browser = new Browser(), city = await City.start(process.argv[2], { seconds: 600, fill: "fleets" });
-for (const [name, shoot] of Object.entries({ operator, author })) {
+const browser = new Browser(), city = await City.start(process.argv[2], { isTold: true, seconds: 600, fill: "fleets", changes: { oversight: "vehicles" } });
+for (const [name, shoot] of Object.entries({ oversight, operator, author })) {
   const file = join(TOP, "docs", `page-${name}.png`);
   try {
     await shoot(browser, city, file);

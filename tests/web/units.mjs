@@ -15,9 +15,10 @@ cpSync(join(TOP, "web"), copy, { recursive: true });
 writeFileSync(join(copy, "package.json"), '{"type":"module"}');
 globalThis.sessionStorage = { getItem: () => null };
 const part = (name) => import(join(copy, `${name}.js`));
-const { inWhole, mercator, unmercator, within } = await part("geometry");
+const { inWhole, isCrossing, mercator, unmercator, within } = await part("geometry");
 const { Clock, zone } = await part("zone");
 const { WORDS } = await part("server");
+const { csv } = await part("dom");
 const rules = await part("rules");
 
 const { is, ok, done } = new Tally();
@@ -58,6 +59,10 @@ is("a name is no zone", zone("America/Los_Angeles"), null);
 is("a field goes there and back over a change of clocks", [Date.UTC(2026, 10, 1, 7), Date.UTC(2026, 2, 8, 11), Date.UTC(2026, 6, 1)]
   .map((t) => { const clock = new Clock("PST8PDT,M3.2.0,M11.1.0"); return clock.fromField(clock.toField(t)) - t; }).join(), "0,0,0");
 
+const own = new Clock("", true);
+is("the reader's own time is said to be so, and no other", [own, new Clock("Z", true)].map((it) => /^your own time, UTC/.test(it.name(0))).join(), "true,false");
+is("a zone that isn't told is UTC", [own.isTold, new Clock("").offset(0)].join(), "false,0");
+
 // --- Geometry -----------------------------------------------------------------------------------------------------------
 
 const square = (side, at = 0) => [[at, at], [at + side, at], [at + side, at + side], [at, at + side], [at, at]];
@@ -69,6 +74,14 @@ is("a hair from a long slanted edge", [[90, 45], [90, 45.0000001], [90, 44.99999
   .map(([x, y]) => holds([[[[0, 0], [180, 90], [180, 0], [0, 0]]]], x, y)).join(), "1,0,1");
 const [x, y] = mercator(-122.68, 45.52), [lng, lat] = unmercator(x, y);
 ok("the map's square goes there and back", Math.abs(lng + 122.68) < 1e-9 && Math.abs(lat - 45.52) < 1e-9);
+
+is("a square, a bow tie, a corner on an edge, an edge there and back, corners twice", [square(10), [[0, 0], [4, 4], [4, 0], [0, 4], [0, 0]],
+  [[0, 0], [8, 0], [8, 8], [4, 0], [0, 8], [0, 0]], [[0, 0], [8, 0], [8, 8], [8, 0], [0, 8], [0, 0]], [[0, 0], [0, 0], [4, 0], [4, 4], [4, 4], [0, 0]]]
+  .map(isCrossing).join(), "false,true,true,true,false");
+is("a long outline is looked at in time, and crosses nothing", isCrossing(inWhole([[Array.from({ length: 20_001 }, (_, n) => {
+  const angle = 2 * Math.PI * (n % 20_000) / 20_000, radius = n % 2 ? 0.08 : 0.07;
+  return [radius * Math.cos(angle), radius * Math.sin(angle)];
+})]])[0][0]), false);
 
 // --- Policies -----------------------------------------------------------------------------------------------------------
 
@@ -119,6 +132,60 @@ is("what isn't judged", verdicts(rule({ rule_type: "speed" }), rule({ rule_type:
 is("nowhere", verdicts(rule({ geographies: [], maximum: 0 })), "ok 0 ");
 is("bounds in words", [{ maximum: 0 }, { minimum: 2, maximum: 1500 }, { minimum: 1, inclusive_minimum: false }, {}]
   .map((it) => rules.bounds(rule(it))).join("; "), "None; At least 2, at most 1,500; More than 1; Any number");
+
+const two = { ...fleet, owner: [0, 0, 1, 1], starts: [0, 2, 4] };
+const each = (...list) => rules.workOutEach(policy("a", { rules: list }), 10_000, { fleet: two, places, clock })
+  .map((it) => it.map(({ status, measure }) => `${status} ${measure}`).join(", ")).join("; ");
+is("each operator's own vehicles count", each(rule({ vehicle_types: ["scooter"], maximum: 1 }), rule({ geographies: ["Q"], minimum: 1 })),
+  "violated 2, ok 0; violated 0, ok 2");
+is("closed, and not judged, for each operator", each(rule({ days: ["fri"] }), rule({ rule_type: "speed" })), "inactive 0, inactive 0; not_evaluated 0, not_evaluated 0");
+is("a unit that is none isn't judged", ["hours", "toString", "constructor", undefined].map((rule_units) =>
+  rules.isJudged({ rule_type: "time", rule_units })).join(), "true,false,false,false");
+is("how long ago, in words", [0, 59_999, 60_000, 3 * HOUR + 12 * 60_000, HOUR, 2 * DAY + 23 * HOUR + 59 * 60_000, DAY + 60_000].map(rules.ago).join("; "),
+  "less than a minute ago; less than a minute ago; 1 minute ago; 3 hours 12 minutes ago; 1 hour ago; 2 days 23 hours ago; 1 day ago");
+const words = [rules.TYPES, rules.STATES, rules.EVENTS, rules.PROPULSIONS];
+is("each word of MDS stands once, in order", words.map((list) => list.join() === [...new Set(list)].sort().join()).join(), "true,true,true,true");
+ok("and is a token of the protocol", words.flat().every((it) => /^[a-z0-9_]{1,40}$/.test(it)));
+
+// --- How operators stand ------------------------------------------------------------------------------------------------
+
+const measured = (more, status, measure) => rules.measured(rule(more), { status, measure });
+is("a count against its bounds", [measured({ maximum: 10 }, "violated", 12), measured({ maximum: 0 }, "violated", 3), measured({ minimum: 4 }, "ok", 4),
+  measured({ maximum: 10, inclusive_maximum: false }, "violated", 1200)].join("; "), "12 of at most 10; 3, none allowed; 4 of at least 4; 1,200 of fewer than 10");
+const time = { rule_type: "time", rule_units: "hours" };
+is("a time against its bounds", [measured({ ...time, maximum: 72 }, "violated", 9), measured({ ...time, maximum: 24, inclusive_maximum: false }, "ok", 0),
+  measured({ ...time, minimum: 2, maximum: 24 }, "violated", 1)].join("; "),
+"9 vehicles for more than 72 hours; no vehicle for 24 hours or more; 1 vehicle for less than 2 hours, or for more than 24 hours");
+is("what isn't judged has no measure", [measured({}, "inactive", 0), measured({ rule_type: "speed" }, "not_evaluated", 0)].join(), ",");
+const ruled = (id, ...names) => policy(id, { policy_id: id, name: id, rules: names.map((name) => rule({ name })) });
+const reports = (...list) => ({ policies: list.map(([policy_id, ...statuses]) => ({ policy_id, rules: statuses.map((status) => ({ status, measure: 0 })) })) });
+const stood = rules.standingRows([{ id: "B", compliance: reports(["p", "ok", "violated"], ["q", "inactive"]) }, { id: "A", compliance: reports(["P", "violated", "ok"]) },
+  { id: "C", compliance: { error: "no_memory" } }, { id: "D", compliance: reports(["unknown", "ok"]) }], [ruled("p", "one", "two"), ruled("q", "three")]);
+const said = (list) => list.map((it) => `${it.id}${it.owner} ${it.rule.name} ${it.verdict.status}`).join("; ");
+is("a row for each operator and rule that it is told of", said(stood),
+  "B0 one ok; B0 two violated; B0 three inactive; A1 one violated; A1 two ok");
+is("the broken ones first", said(rules.inOrder(stood, "broken", (id) => id)),
+  "B0 two violated; A1 one violated; B0 one ok; A1 two ok; B0 three inactive");
+is("by operator", said(rules.inOrder(stood, "operator", (id) => id)), "A1 one violated; A1 two ok; B0 two violated; B0 one ok; B0 three inactive");
+is("by policy", said(rules.inOrder(stood, "policy", (id) => id)), "B0 two violated; A1 one violated; B0 one ok; A1 two ok; B0 three inactive");
+is("CSV by RFC 4180, without a formula", csv([["a", 'b "c"', "d,e", "f\ng"], ["=1+1", "+1", "-1", "@x", "\tx", "'x"], [-1, null, undefined, 0]]),
+  "a,\"b \"\"c\"\"\",\"d,e\",\"f\ng\"\r\n'=1+1,'+1,'-1,'@x,'\tx,'x\r\n-1,,,0\r\n");
+
+// --- Likely mistakes ----------------------------------------------------------------------------------------------------
+
+const warned = (more, seen = [], dates = {}) => rules.warnings({ start_date: 5, rules: [rule({ name: "R", maximum: 1, ...more })], ...dates }, seen).join(" ");
+is("nothing to warn of", warned({ vehicle_types: ["moped"], states: { available: [] } }, [], { end_date: 6 }), "");
+is("a type and a state that are none", warned({ vehicle_types: ["scooter_stading"], states: { availabel: [] } }),
+  "The rule “R”: “scooter_stading” is no vehicle type of MDS, and no vehicle is known to be one. "
+  + "The rule “R”: “availabel” is no vehicle state of MDS, and no vehicle is known to be in it.");
+is("a type that no vehicle has now", warned({ vehicle_types: ["bus", "scooter"] }, kinds), "The rule “R”: no vehicle is a “bus” now.");
+is("a type and a state of a vehicle alone", warned({ vehicle_types: ["own"], states: { odd: [] } }, [{ type: "own", state: "odd" }]), "");
+is("no bound", warned({ maximum: undefined }), "The rule “R”: it has no bound, so it is always kept.");
+is("bounds that exclude one another", warned({ minimum: 5, maximum: 3 }), "The rule “R”: nothing is at least 5 and at most 3.");
+is("bounds that are the same", warned({ minimum: 3, maximum: 3 }), "");
+is("an end that isn't after the start", [4, 5].map((end_date) => /never in force/.test(warned({}, [], { end_date }))).join(), "true,true");
+is("what isn't judged isn't looked at", warned({ rule_type: "speed", maximum: undefined }), "");
+is("a document of any kind", [{}, { rules: null }, { rules: [null, 1, {}] }].map((it) => rules.warnings(it, []).length).join(), "0,0,0");
 
 // --- The sources --------------------------------------------------------------------------------------------------------
 

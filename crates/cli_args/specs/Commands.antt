@@ -3,19 +3,22 @@ use Rattle.std.specs.Prelude.{ℕ, Bool, true, false, not, ◌&&◌, List, [], �
 use Rattle.uuid.specs.Text.{parsed}
 use Rattle.cli_args.specs.Options.{value_of, are_options, moment_in, count_in}
 use Rattle.cli_args.specs.Transfers.{Job, errand_of, errand_view}
+use Rattle.cli_args.specs.Reports.{Report, report_of, report_view}
 use Rattle.cli_args.specs.declared.command.TheConstants.{THIN_AT}
 use Rattle.cli_args.specs.declared.command.CliCommand.{CliCommand}
-use Rattle.cli_args.specs.declared.command.CliCommand.TheVariants.{Help, Version, Serve, Check, CheckConfig, Audit, Thin, Stop, Errand}
+use Rattle.cli_args.specs.declared.command.CliCommand.TheVariants.{Help, Version, Serve, Check, CheckConfig, Audit, Report as ReportOn, Thin, Stop, Errand}
 
 -- what the program is asked to do
 pub data Request : Type 0 where
   help : Request
   version : Request
-  serve : (config state listen : List ℕ) → (control control_host dropped : Option (List ℕ)) → (thin_at : ℕ) → Request
+  serve : (config state listen : List ℕ) → (control control_host dropped : Option (List ℕ)) → (thin_at : ℕ)
+      → (archive : Option (List ℕ)) → Request
   check : (folder : List ℕ) → Request
   check_config : (config : List ℕ) → Request
   audit : (folder config : List ℕ) → (until : Option ℕ) → (operator : Option (List ℕ)) → Request
-  thin : (folder config : List ℕ) → Request
+  thin : (folder config : List ℕ) → (archive : Option (List ℕ)) → Request
+  report : Report → Request
   stop : (address : List ℕ) → Request
   errand : Job → Request
 
@@ -25,7 +28,8 @@ read_if read None = Some None
 read_if read (Some word) = option_map Some (read word)
 
 abbrev pub serving_options : List (List ℕ)
-serving_options = codes "--config" ∷ codes "--state" ∷ codes "--listen" ∷ codes "--control" ∷ codes "--control-host" ∷ codes "--drop" ∷ codes "--thin-at" ∷ []
+serving_options = codes "--config" ∷ codes "--state" ∷ codes "--listen" ∷ codes "--control" ∷ codes "--control-host" ∷ codes "--drop" ∷ codes "--thin-at"
+    ∷ codes "--archive" ∷ []
 
 -- the control port has a further name only where there is a control port
 abbrev pub is_control : (control control_host : Option (List ℕ)) → Bool
@@ -34,12 +38,12 @@ is_control control control_host = true
 
 -- to serve, where these three are given; without `--thin-at` its default holds
 abbrev pub serve_with : (config state listen control control_host : Option (List ℕ)) → (dropped : Option (Option (List ℕ)))
-    → (thin_at : Option (Option ℕ)) → Option Request
-serve_with (Some config) (Some state) (Some listen) control control_host (Some dropped) (Some thin_at) =
+    → (thin_at : Option (Option ℕ)) → (archive : Option (List ℕ)) → Option Request
+serve_with (Some config) (Some state) (Some listen) control control_host (Some dropped) (Some thin_at) archive =
     if is_control control control_host
-    then Some (serve config state listen control control_host dropped (unwrap_or thin_at THIN_AT))
+    then Some (serve config state listen control control_host dropped (unwrap_or thin_at THIN_AT) archive)
     else None
-serve_with config state listen control control_host dropped thin_at = None
+serve_with config state listen control control_host dropped thin_at archive = None
 
 abbrev pub asked_to_serve : List (List ℕ) → Option Request
 asked_to_serve words =
@@ -47,6 +51,7 @@ asked_to_serve words =
     then serve_with (value_of (codes "--config") words) (value_of (codes "--state") words) (value_of (codes "--listen") words)
     (value_of (codes "--control") words) (value_of (codes "--control-host") words)
     (read_if parsed (value_of (codes "--drop") words)) (read_if count_in (value_of (codes "--thin-at") words))
+    (value_of (codes "--archive") words)
     else None
 
 abbrev pub auditing_options : List (List ℕ)
@@ -65,13 +70,19 @@ asked_to_audit folder words =
     else None
 
 -- to compact a journal, where the configuration is given
-abbrev pub thin_with : List ℕ → Option (List ℕ) → Option Request
-thin_with folder (Some config) = Some (thin folder config)
-thin_with folder None = None
+abbrev pub thin_with : (folder : List ℕ) → (config archive : Option (List ℕ)) → Option Request
+thin_with folder (Some config) archive = Some (thin folder config archive)
+thin_with folder None archive = None
 
 abbrev pub asked_to_thin : List ℕ → List (List ℕ) → Option Request
 asked_to_thin folder words =
-    if are_options (codes "--config" ∷ []) words then thin_with folder (value_of (codes "--config") words) else None
+    if are_options (codes "--config" ∷ codes "--archive" ∷ []) words
+    then thin_with folder (value_of (codes "--config") words) (value_of (codes "--archive") words)
+    else None
+
+-- to report how operators stood
+abbrev pub asked_to_report : List (List ℕ) → Option Request
+asked_to_report words = option_map report (report_of words)
 
 -- to check a configuration, by its one option
 abbrev pub asked_to_check : List ℕ → List (List ℕ) → Option Request
@@ -106,17 +117,20 @@ asked_of verb name (word ∷ words) =
 abbrev pub asked_by : List (List ℕ) → Option Request
 asked_by [] = None
 asked_by (word ∷ []) = asked_alone word
-asked_by (verb ∷ word ∷ words) = if bytes_eq verb (codes "serve") then asked_to_serve (word ∷ words) else asked_of verb word words
+asked_by (verb ∷ word ∷ words) =
+    if bytes_eq verb (codes "serve") then asked_to_serve (word ∷ words)
+    else (if bytes_eq verb (codes "report") then asked_to_report (word ∷ words) else asked_of verb word words)
 
 abbrev pub asked_view : CliCommand → Request
 asked_view Help = help
 asked_view Version = version
 asked_view (Serve s) =
     serve s.config.now s.state.now s.listen.now (option_map (λ word. word.now) s.control)
-    (option_map (λ word. word.now) s.control_host) s.dropped s.thin_at
+    (option_map (λ word. word.now) s.control_host) s.dropped s.thin_at (option_map (λ word. word.now) s.archive)
 asked_view (Check folder) = check folder.now
 asked_view (CheckConfig config) = check_config config.now
 asked_view (Audit a) = audit a.folder.now a.config.now a.until a.operator
-asked_view (Thin t) = thin t.folder.now t.config.now
+asked_view (Thin t) = thin t.folder.now t.config.now (option_map (λ word. word.now) t.archive)
+asked_view (ReportOn r) = report (report_view r)
 asked_view (Stop address) = stop address.now
 asked_view (Errand e) = errand (errand_view e)

@@ -1,4 +1,5 @@
 pub mod Options
 pub mod Commands
 pub mod Transfers
+pub mod Reports
 pub mod Versions

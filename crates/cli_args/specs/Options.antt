@@ -1,5 +1,5 @@
 -- Options among a program's arguments: each is a name, with a value behind it.
-use Rattle.std.specs.Prelude.{ℕ, ◌+◌, ◌-◌, ◌*◌, ◌&&◌, fold, Bool, true, false, not, List, [], ◌∷◌, length, bytes_eq, nat_le, is_some, if◌then◌else◌, Option, Some, None}
+use Rattle.std.specs.Prelude.{ℕ, ◌+◌, ◌-◌, ◌*◌, ◌&&◌, ◌==◌, fold, Bool, true, false, not, List, [], ◌∷◌, length, bytes_eq, nat_le, is_some, if◌then◌else◌, Option, Some, None}
 use Rattle.std.specs.List.{list_all, list_any}
 use Rattle.std.specs.Char.{is_ascii_digit}
 use Rattle.mds_text.specs.Fields.{last_moment}
@@ -18,6 +18,16 @@ abbrev pub are_options : List (List ℕ) → List (List ℕ) → Bool
 are_options names (word ∷ value ∷ words) = is_new names word words && are_options names words
 are_options names (word ∷ []) = false
 are_options names [] = true
+
+-- an argument that begins an option: with `--`
+abbrev pub begins_option : List ℕ → Bool
+begins_option (a ∷ b ∷ word) = (a == 45) && (b == 45)
+begins_option word = false
+
+-- how many arguments stand before the first option
+abbrev pub leading_count : List (List ℕ) → ℕ
+leading_count [] = 0
+leading_count (word ∷ words) = if begins_option word then 0 else 1 + leading_count words
 
 abbrev pub are_digits : List ℕ → Bool
 are_digits bytes = list_all is_ascii_digit bytes

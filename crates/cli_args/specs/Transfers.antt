@@ -1,6 +1,6 @@
 -- What `import` and `export` ask for.
-use Rattle.std.specs.Prelude.{ℕ, ◌+◌, ◌-◌, ◌==◌, ◌&&◌, Bool, false, List, [], ◌∷◌, length, take, drop, map, bytes_eq, codes, string_bytes, option_map, if◌then◌else◌, Option, Some, None}
-use Rattle.cli_args.specs.Options.{value_of, are_options}
+use Rattle.std.specs.Prelude.{ℕ, ◌-◌, Bool, false, List, [], ◌∷◌, length, take, drop, map, bytes_eq, codes, string_bytes, option_map, if◌then◌else◌, Option, Some, None}
+use Rattle.cli_args.specs.Options.{value_of, are_options, leading_count}
 use Rattle.cli_args.specs.declared.transfers.TokenSource.{TokenSource}
 use Rattle.cli_args.specs.declared.transfers.TokenSource.TheVariants.{Argument, File}
 use Rattle.cli_args.specs.declared.transfers.Destination.{Destination}
@@ -19,16 +19,6 @@ pub data Job : Type 0 where
   policies : (files : List (List ℕ)) → (destination : Option (List ℕ × Token)) → Job
   status : (files : List (List ℕ)) → (destination : Option (List ℕ × Token)) → Job
   published : (folder : List ℕ) → (source : List ℕ × Token) → Job
-
--- an argument that begins an option: with `--`
-abbrev pub begins_option : List ℕ → Bool
-begins_option (a ∷ b ∷ word) = (a == 45) && (b == 45)
-begins_option word = false
-
--- how many arguments stand before the first option
-abbrev pub file_count : List (List ℕ) → ℕ
-file_count [] = 0
-file_count (word ∷ words) = if begins_option word then 0 else 1 + file_count words
 
 -- the last argument is `--dry-run`
 abbrev pub is_dry : List (List ℕ) → Bool
@@ -77,7 +67,7 @@ sent job files None = None
 sent job files (Some destination) = Some (job files destination)
 
 abbrev pub sent_by : (List (List ℕ) → Option (List ℕ × Token) → Job) → List (List ℕ) → Option Job
-sent_by job words = sent job (take (file_count words) words) (destination_in (drop (file_count words) words))
+sent_by job words = sent job (take (leading_count words) words) (destination_in (drop (leading_count words) words))
 
 -- what `import` asks for, with a kind of file and further arguments
 abbrev pub import_of : List ℕ → List (List ℕ) → Option Job

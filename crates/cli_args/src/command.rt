@@ -2,10 +2,12 @@
 ghost use Rattle.std.specs.Prelude.{◌≡◌, ◌∷◌, map, string_bytes, option_map};
 ghost use Rattle.uuid.specs.Text.{parsed};
 ghost use Rattle.cli_args.specs.Options.{moment_in, count_in};
-ghost use Rattle.cli_args.specs.Commands.{read_if, asked_to_serve, asked_to_audit, asked_to_thin, asked_to_check, asked_alone, asked_with, asked_of, asked_errand, asked_by, asked_view};
+ghost use Rattle.cli_args.specs.Commands.{read_if, asked_to_serve, asked_to_audit, asked_to_thin, asked_to_check, asked_to_report, asked_alone, asked_with, asked_of, asked_errand, asked_by, asked_view};
 
 use crate::moment::{count_of, moment_of};
 use crate::options::{are_options, value_of};
+use crate::report::ReportOptions;
+use crate::report_words::report_of;
 use crate::transfers::{Transfer, transfer_of};
 use mds_text::{Id, Moment};
 
@@ -14,6 +16,9 @@ pub const THIN_AT: u64 = 67_108_864;
 
 /// The option whose value is the configuration's file.
 const CONFIG: &str = "--config";
+
+/// The option whose value is the folder of archived journals.
+const ARCHIVE: &str = "--archive";
 
 /// The arguments of `serve`: which city is served, and where.
 #[derive(Clone, Copy)]
@@ -32,6 +37,8 @@ pub struct ServeOptions<'a> {
     pub dropped: Option<Id>,
     /// The least growth of the journal, in bytes, before it is compacted; 0 for never.
     pub thin_at: u64,
+    /// The folder that keeps each journal that a compacted one replaces; `None` for nowhere.
+    pub archive: Option<&'a str>,
 }
 
 /// The arguments of `audit`: which entries of a journal are printed.
@@ -54,6 +61,8 @@ pub struct ThinOptions<'a> {
     pub folder: &'a str,
     /// The configuration's file.
     pub config: &'a str,
+    /// The folder that keeps the journal as it was before; `None` for nowhere.
+    pub archive: Option<&'a str>,
 }
 
 /// What the program's arguments ask for.
@@ -73,6 +82,8 @@ pub enum CliCommand<'a> {
     Audit(AuditOptions<'a>),
     /// To compact the journal of a folder.
     Thin(ThinOptions<'a>),
+    /// To report how operators stood at moments of the past.
+    Report(ReportOptions<'a>),
     /// To stop the server whose control port is at this address.
     Stop(&'a str),
     /// To import files into a server, or to export what it has published.
@@ -130,6 +141,7 @@ fn serve_command(words: &[String]) -> Option<CliCommand<'_>>
         "--control-host",
         "--drop",
         "--thin-at",
+        ARCHIVE,
     ];
     if !are_options(names, words) {
         return None;
@@ -152,6 +164,7 @@ fn serve_command(words: &[String]) -> Option<CliCommand<'_>>
         control_host,
         dropped,
         thin_at,
+        archive: value_of(ARCHIVE, words),
     }))
 }
 
@@ -173,15 +186,30 @@ fn audit_command<'a>(folder: &'a str, words: &'a [String]) -> Option<CliCommand<
     }))
 }
 
-/// What `thin` asks for, with a folder and its one option; `None` where that is wrong.
+/// What `thin` asks for, with a folder and options in any order; `None` where they are wrong.
 fn thin_command<'a>(folder: &'a str, words: &'a [String]) -> Option<CliCommand<'a>>
     ensures { option_map asked_view result ≡ asked_to_thin folder.now (map string_bytes words.now) }
 {
-    if !are_options(&[CONFIG], words) {
+    if !are_options(&[CONFIG, ARCHIVE], words) {
         return None;
     }
     let config = value_of(CONFIG, words)?;
-    Some(CliCommand::Thin(ThinOptions { folder, config }))
+    let archive = value_of(ARCHIVE, words);
+    Some(CliCommand::Thin(ThinOptions {
+        folder,
+        config,
+        archive,
+    }))
+}
+
+/// What `report` asks for, with journals and options behind them; `None` where they are wrong.
+fn report_command(words: &[String]) -> Option<CliCommand<'_>>
+    ensures { option_map asked_view result ≡ asked_to_report (map string_bytes words.now) }
+{
+    match report_of(words) {
+        Some(report) => Some(CliCommand::Report(report)),
+        None => None,
+    }
 }
 
 /// What `check --config` asks for, with one file behind it; `None` for any other option or words.
@@ -220,7 +248,7 @@ fn one_argument_command<'a>(verb: &str, name: &'a str) -> Option<CliCommand<'a>>
     }
 }
 
-/// What a verb other than `serve` asks for, with its first argument and those behind it.
+/// What a verb other than `serve` and `report` asks for, with its first argument and those behind it.
 fn verb_command<'a>(verb: &str, name: &'a str, words: &'a [String]) -> Option<CliCommand<'a>>
     ensures { option_map asked_view result ≡ asked_of verb.now name.now (map string_bytes words.now) }
 {
@@ -255,6 +283,7 @@ pub fn parse_command(words: &[String]) -> Option<CliCommand<'_>>
         [] => None,
         [word] => single_word_command(word.as_str()),
         [verb, rest @ ..] if verb.as_str() == "serve" => serve_command(rest),
+        [verb, rest @ ..] if verb.as_str() == "report" => report_command(rest),
         [verb, name, rest @ ..] => verb_command(verb.as_str(), name.as_str(), rest),
     }
 }

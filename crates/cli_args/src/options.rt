@@ -1,7 +1,7 @@
 //! Options: each is a name, with a value behind it.
-ghost use Rattle.std.specs.Prelude.{◌≡◌, map, string_bytes, bytes_eq, option_map};
+ghost use Rattle.std.specs.Prelude.{◌≡◌, ◌≤◌, length, map, string_bytes, bytes_eq, option_map};
 ghost use Rattle.std.specs.List.{list_any};
-ghost use Rattle.cli_args.specs.Options.{value_of, is_new, are_options};
+ghost use Rattle.cli_args.specs.Options.{value_of, is_new, are_options, begins_option, leading_count};
 
 /// The value behind the first option of this name.
 pub(crate) fn value_of<'a>(name: &str, words: &'a [String]) -> Option<&'a str>
@@ -34,7 +34,7 @@ fn is_known(names: &[&str], word: &str) -> bool
 
 /// Whether a word is one of these names, and no option behind it has the same name.
 #[tactic(auto, unfolding(crate::specs::Options::is_new))]
-fn is_new(names: &[&str], word: &str, behind: &[String]) -> bool
+pub(crate) fn is_new(names: &[&str], word: &str, behind: &[String]) -> bool
     ensures { result ≡ is_new (map (λ name. name.now) names.now) word.now (map string_bytes behind.now) }
 {
     is_known(names, word) && value_of(word, behind).is_none()
@@ -55,4 +55,29 @@ pub(crate) fn are_options(names: &[&str], words: &[String]) -> bool
         rest = behind;
     }
     true
+}
+
+/// Whether an argument begins an option: with `--`.
+fn begins_option(word: &str) -> bool
+    ensures { result ≡ begins_option word.now }
+{
+    match word.as_bytes() {
+        [first, second, ..] => *first == b'-' && *second == b'-',
+        _ => false,
+    }
+}
+
+/// How many arguments stand before the first option.
+pub(crate) fn leading_count(words: &[String]) -> usize
+    ensures value { result ≡ leading_count (map string_bytes words.now) }
+    ensures within { result ≤ length words.now }
+{
+    let mut count = 0;
+    for word in words {
+        if begins_option(word.as_str()) {
+            return count;
+        }
+        count += 1;
+    }
+    count
 }

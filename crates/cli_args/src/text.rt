@@ -11,7 +11,7 @@ pub const USAGE: &str =
 pub const HELP: &str = "\
 ruffletuff serve --config FILE --state DIR --listen ADDRESS
                  [--control ADDRESS [--control-host NAME]] [--drop ID]
-                 [--thin-at BYTES]
+                 [--thin-at BYTES] [--archive DIR]
     serves one city over HTTP
 ruffletuff check DIR
     says how many records and bytes a folder's journal has, and how it ends
@@ -19,8 +19,12 @@ ruffletuff check --config FILE
     says whether a configuration is one, and else what is wrong
 ruffletuff audit DIR --config FILE [--until MOMENT] [--operator ID]
     prints a folder's journal as a script for mds_replay
-ruffletuff thin DIR --config FILE
+ruffletuff thin DIR --config FILE [--archive DIR]
     replaces a folder's journal by a shorter one that leads to the same city
+ruffletuff report FOLDER.. --config FILE --from TIME --to TIME [--every MINUTES]
+                  [--operator ID].. --out DIR
+    writes how operators stood at moments of the past, by the journals of
+    folders, as verdicts.csv, summary.csv and report.html into DIR
 ruffletuff stop ADDRESS
     stops the server whose control port is at this address
 ruffletuff import policies FILE.. --to ADDRESS --token-file PATH [--dry-run]
@@ -39,7 +43,18 @@ ADDRESS  where to listen, as 127.0.0.1:8080. The control port, at the address
          behind --control, says whether the server serves and what it counts,
          and stops it: let nobody else reach it
 DIR      the folder in which the city is kept, or into which what is published
-         is written; to serve and to export, it is made where it isn't there
+         is written; to serve and to export, it is made where it isn't there;
+         a report is written where it is, and none of its files.
+         To check and to audit, a journal's file may stand in its place. The one
+         behind --archive has to be there: each journal that a shorter one
+         replaces is kept in it, as journal-FIRST-LAST, by the moments of its
+         first and last entries
+FOLDER   a city's folder, or a journal by itself
+TIME     a moment of RFC 3339, a date or a date and time of the configuration's
+         zone, or milliseconds of the Unix epoch: 2026-11-23T08:00:00-05:00,
+         2026-11-23, 2026-11-23T08:00. The last one is before --to
+MINUTES  from one moment of a report to the next, 1 to 1440: 5 where it isn't
+         said
 FILE     the configuration, a JSON object on as many lines as one likes:
            author     the author's access token
            operators  at most 64 objects with id (a UUID), limit (1 to 200000
@@ -51,7 +66,7 @@ FILE     the configuration, a JSON object on as many lines as one likes:
          equal.
 ID       an operator, by its UUID. --drop leaves out what the journal has of
          an operator that isn't in the configuration any more; --operator
-         prints its requests and the author's alone
+         prints its requests and the author's alone, or reports it alone
 NAME     one more name, without a port, by which the control port may be called,
          as a browser or a proxy gives it in the field Host
 PATH     a file with the access token alone; one line end behind it is no part
@@ -63,8 +78,8 @@ BYTES    how many the journal has before it is thinned while the city is served,
          and then three times what it was thinned to and so many more: 67108864
          where it isn't said, 0 for never
 
-To check and to audit read while a server writes; to thin needs the folder
-alone. Standard output says 'ready' once the server listens. After a fault
+To check, to audit and to report read while a server writes; to thin needs the
+folder alone. Standard output says 'ready' once the server listens. After a fault
 standard error says which.
 
 Exit status: 0 done
@@ -72,10 +87,11 @@ Exit status: 0 done
                gives a whole answer, or standard output can't be written
              2 the arguments, the configuration or a token's file are wrong
              3 memory ran out
-             4 the folder can't be used, or another program has it
+             4 a folder can't be used, or another program has it
              5 the journal is damaged, or of another version
              6 the configuration doesn't fit the journal
-             7 the journal, or the thinned one, couldn't be written
+             7 the journal, the thinned one, the archive or a report couldn't be
+               written
              8 the thinned journal leads to another city, and wasn't taken
              9 something that was read isn't sent, or was refused
             10 the server takes nothing by this access token

@@ -1,8 +1,8 @@
 //! What `import` and `export` ask for.
 ghost use Rattle.std.specs.Prelude.{◌≡◌, ◌≤◌, ◌<◌, ◌∷◌, [], length, map, codes, string_bytes, option_map, IsTrue, if◌then◌else◌, Some, None};
-ghost use Rattle.cli_args.specs.Transfers.{policies, status, begins_option, file_count, is_dry, token_source, place_in, dry_with, destination_in, sent_by, import_of, export_of, errand_of, token_view, place_view, import_view, errand_view};
+ghost use Rattle.cli_args.specs.Transfers.{policies, status, is_dry, token_source, place_in, dry_with, destination_in, sent_by, import_of, export_of, errand_of, token_view, place_view, import_view, errand_view};
 
-use crate::options::{are_options, value_of};
+use crate::options::{are_options, leading_count, value_of};
 
 /// The option for a dry run; it stands behind all others.
 const DRY_RUN: &str = "--dry-run";
@@ -48,31 +48,6 @@ pub enum Transfer<'a> {
     Status(Import<'a>),
     /// Writes what is published at a server into a folder.
     Published(Export<'a>),
-}
-
-/// Whether an argument begins an option: with `--`.
-fn begins_option(word: &str) -> bool
-    ensures { result ≡ begins_option word.now }
-{
-    match word.as_bytes() {
-        [first, second, ..] => *first == b'-' && *second == b'-',
-        _ => false,
-    }
-}
-
-/// How many arguments stand before the first option.
-fn file_count(words: &[String]) -> usize
-    ensures value { result ≡ file_count (map string_bytes words.now) }
-    ensures within { result ≤ length words.now }
-{
-    let mut count = 0;
-    for word in words {
-        if begins_option(word.as_str()) {
-            return count;
-        }
-        count += 1;
-    }
-    count
 }
 
 /// Whether the last argument is `--dry-run`.
@@ -145,7 +120,7 @@ fn import_options(words: &[String]) -> Option<Import<'_>>
     ensures documents { option_map (import_view policies) result ≡ sent_by policies (map string_bytes words.now) }
     ensures vehicles { option_map (import_view status) result ≡ sent_by status (map string_bytes words.now) }
 {
-    let (files, options) = words.split_at(file_count(words));
+    let (files, options) = words.split_at(leading_count(words));
     if files.is_empty() {
         return None;
     }

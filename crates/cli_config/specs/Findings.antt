@@ -17,7 +17,7 @@ use Rattle.cli_config.specs.declared.zoning.ResolvedZone.{ResolvedZone}
 use Rattle.cli_config.specs.declared.zoning.ResolvedZone.TheVariants.{Fault}
 use Rattle.cli_config.specs.Grammar.{fault_from, fresh}
 use Rattle.cli_config.specs.Lexemes.{marks_of}
-use Rattle.cli_config.specs.Members.{warning}
+use Rattle.cli_config.specs.Members.{member_finding}
 use Rattle.cli_config.specs.Paths.{last_meant, path_text, spot_text, wrong_path}
 use Rattle.cli_config.specs.Positions.{place_at}
 use Rattle.cli_config.specs.LocatedMembers.{Seen, spots_from, start}
@@ -57,13 +57,21 @@ error_here bytes here offset None = []
 error_here bytes here offset (Some l) =
     if begins_at here l.value then record { place = place_at bytes offset; member = path_text l.path; what = l.what } ∷ [] else []
 
-abbrev pub warning_here : List ℕ → Seen → List Told
-warning_here bytes spot = option_to_list (option_map (λ w. record { place = place_at bytes spot.at; member = spot_text spot; what = w }) (warning bytes spot))
+-- an error of a member is in its value, and a warning at its name
+abbrev pub finding_at : Seen → FindingKind → ℕ
+finding_at spot what.NoOversight = spot.value.from
+finding_at spot other = spot.at
 
--- both errors, and the warning, for this member or operator
+abbrev pub member_found : List ℕ → Seen → FindingKind → Told
+member_found bytes spot w = record { place = place_at bytes (finding_at spot w); member = spot_text spot; what = w }
+
+abbrev pub member_finding_here : List ℕ → Seen → List Told
+member_finding_here bytes spot = option_to_list (option_map (member_found bytes spot) (member_finding bytes spot))
+
+-- both errors, and what is found in it, for this member or operator
 abbrev pub found_here : List ℕ → Option LocatedError → Option LocatedError → Seen → List Told
 found_here bytes wrong zone spot =
-    error_here bytes (Some spot.value.from) spot.value.from wrong ++ error_here bytes (Some spot.value.from) spot.value.from zone ++ warning_here bytes spot
+    error_here bytes (Some spot.value.from) spot.value.from wrong ++ error_here bytes (Some spot.value.from) spot.value.from zone ++ member_finding_here bytes spot
 
 abbrev pub found_from : List ℕ → Option LocatedError → Option LocatedError → List Seen → List Told
 found_from bytes wrong faulty [] = []

@@ -4,7 +4,7 @@ use Rattle.mds_config_error.specs.Wording.{wrong_wording}
 use Rattle.cli_timezone.specs.Wording.{fault_wording}
 use Rattle.cli_config.specs.declared.finding.ConfigFinding.{ConfigFinding}
 use Rattle.cli_config.specs.declared.finding.FindingKind.{FindingKind}
-use Rattle.cli_config.specs.declared.finding.FindingKind.TheVariants.{Wrong, Zone, Unread, NoTruth, NoName}
+use Rattle.cli_config.specs.declared.finding.FindingKind.TheVariants.{Wrong, Zone, NoOversight, Unread, NoTruth, NoName}
 use Rattle.cli_config.specs.declared.nearest.Hint.{Hint}
 use Rattle.cli_config.specs.declared.nearest.Hint.TheVariants.{Nothing, Here, Elsewhere}
 use Rattle.cli_config.specs.declared.members.KnownMember.{KnownMember}
@@ -16,6 +16,7 @@ use Rattle.cli_config.specs.Names.{name_of}
 abbrev pub home_wording : KnownMember → List ℕ
 home_wording known.Author = codes ", beside \"operators\""
 home_wording known.Operators = codes ", outside of the operators"
+home_wording known.Oversight = codes ", beside \"operators\""
 home_wording known.Public = codes ", beside \"operators\""
 home_wording known.Zone = codes ", beside \"operators\""
 home_wording other = codes ", of an operator"
@@ -32,6 +33,7 @@ unread_wording hint = codes ": nobody reads this member" ++ hint_wording hint
 abbrev pub what_wording : List ℕ → FindingKind → List ℕ
 what_wording member (Wrong w) = wrong_wording w
 what_wording member (Zone fault) = codes "zone: its file in /usr/share/zoneinfo " ++ fault_wording fault
+what_wording member NoOversight = member ++ codes ": neither \"none\", \"verdicts\" nor \"vehicles\""
 what_wording member (Unread hint) = member ++ unread_wording hint
 what_wording member NoTruth = member ++ codes ": neither true nor false, so it counts as false"
 what_wording member NoName = member ++ codes ": no text of at most 256 bytes, so it isn't read"
@@ -52,4 +54,5 @@ line_wording file f = (file ++ place_wording f.place) ++ finding_wording f
 abbrev pub is_error : FindingKind → Bool
 is_error (Wrong w) = true
 is_error (Zone fault) = true
+is_error NoOversight = true
 is_error other = false

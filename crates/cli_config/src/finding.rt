@@ -17,6 +17,8 @@ pub enum FindingKind {
     Wrong(Wrong),
     /// An error: there is no rule for the zone's name.
     Zone(ZoneFileFault),
+    /// An error: a value is none of the texts of the member `oversight`.
+    NoOversight,
     /// A warning: nobody reads the member.
     Unread(Hint),
     /// A warning: a value is neither true nor false, and counts as false.
@@ -47,8 +49,10 @@ impl fmt::Display for KnownHome {
 
     fn fmt<W: fmt::Write>(&self, f: &mut fmt::Formatter<W>) -> fmt::Result {
         f.write_str(match self.0 {
-            KnownMember::Author | KnownMember::Public | KnownMember::Zone =>
-                ", beside \"operators\"",
+            KnownMember::Author
+            | KnownMember::Oversight
+            | KnownMember::Public
+            | KnownMember::Zone => ", beside \"operators\"",
             KnownMember::Operators => ", outside of the operators",
             KnownMember::Id | KnownMember::Limit | KnownMember::Name | KnownMember::Token =>
                 ", of an operator",
@@ -105,6 +109,10 @@ impl fmt::Display for ConfigFinding {
         match self.what {
             FindingKind::Wrong(wrong) => write!(f, "{wrong}"),
             FindingKind::Zone(fault) => write!(f, "zone: its file in /usr/share/zoneinfo {fault}"),
+            FindingKind::NoOversight => write!(
+                f,
+                "{member}: neither \"none\", \"verdicts\" nor \"vehicles\""
+            ),
             FindingKind::Unread(hint) => {
                 let unread = UnreadMessage(hint);
                 write!(f, "{member}{unread}")
@@ -142,12 +150,12 @@ fn position_text(alloc: Global, place: TextPosition) -> Result<String, AllocErro
 impl ConfigFinding {
     ghost use Rattle.cli_config.specs.Wording.{is_error, line_wording};
 
-    /// Whether the text is no configuration because of it. All else is a warning.
+    /// Whether no server starts with the text because of it. All else is a warning.
     pub fn is_error(&self) -> bool
         ensures { result ≡ is_error self.now.what }
     {
         match self.what {
-            FindingKind::Wrong(_) | FindingKind::Zone(_) => true,
+            FindingKind::Wrong(_) | FindingKind::Zone(_) | FindingKind::NoOversight => true,
             FindingKind::Unread(_) | FindingKind::NoTruth | FindingKind::NoName => false,
         }
     }

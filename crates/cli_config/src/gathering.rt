@@ -1,17 +1,17 @@
 //! Gathers the findings in a configuration's text.
 ghost use Rattle.std.specs.Prelude.{◌≡◌, ◌++◌, None, IfOk, OnOk, map, option_map};
-ghost use Rattle.cli_config.specs.Findings.{begin_of, begins_at, error_here, findings, first_at, found_from, found_here, is_json, located, spots_if, told, warning_here, wrong_located, zone_located};
+ghost use Rattle.cli_config.specs.Findings.{begin_of, begins_at, error_here, findings, first_at, finding_at, found_from, found_here, is_json, located, member_finding_here, spots_if, told, wrong_located, zone_located};
 ghost use Rattle.cli_config.specs.LocatedMembers.{seen};
 
 use crate::finding::{ConfigFinding, FindingKind};
 use crate::grammar::fault_at;
 use crate::lexemes::{LexemeAt, lexemes_of};
 use crate::located_members::{LocatedMember, Value};
+use crate::member_finding::member_finding;
 use crate::members::KnownMember;
 use crate::paths::{Path, last_value, member_text, path_text, wrong_path};
 use crate::position::position_of;
 use crate::walk::members_of_text;
-use crate::warning::warning;
 use crate::zoning::{ResolvedZone, text_to_check};
 use mds_config_error::{Wrong, diagnose};
 use std::alloc::{AllocError, Global};
@@ -93,18 +93,28 @@ fn add_error(
     Ok(())
 }
 
-/// Adds the warning about a member, if there is one.
-fn add_warning(
+/// The offset of what is found in a member: of its value where that is an error, and else of its name.
+fn finding_at(spot: &LocatedMember, what: FindingKind) -> usize
+    ensures { result ≡ finding_at (seen spot.now) what }
+{
+    match what {
+        FindingKind::NoOversight => spot.value.from,
+        _ => spot.at,
+    }
+}
+
+/// Adds what is found in a member, if there is something.
+fn add_member_finding(
     findings: &mut Vec<ConfigFinding>,
     alloc: Global,
     text: &[u8],
     spot: &LocatedMember,
 ) -> Result<(), AllocError>
-    ensures { OnOk result (map told findings.new.items ≡ map told findings.old.items ++ warning_here text.now (seen spot.now)) }
+    ensures { OnOk result (map told findings.new.items ≡ map told findings.old.items ++ member_finding_here text.now (seen spot.now)) }
 {
-    if let Some(what) = warning(alloc, text, spot)? {
+    if let Some(what) = member_finding(alloc, text, spot)? {
         findings.push(ConfigFinding {
-            place: position_of(text, spot.at),
+            place: position_of(text, finding_at(spot, what)),
             member: member_text(alloc, spot)?,
             what,
         })?;
@@ -119,7 +129,7 @@ struct Errors {
     zone: Option<LocatedError>,
 }
 
-/// Adds both errors and the warning for this member or operator.
+/// Adds both errors and what is found in it for this member or operator.
 fn add_findings(
     findings: &mut Vec<ConfigFinding>,
     alloc: Global,
@@ -132,7 +142,7 @@ fn add_findings(
     let from = spot.value.from;
     add_error(findings, alloc, text, Some(from), from, errors.wrong)?;
     add_error(findings, alloc, text, Some(from), from, errors.zone)?;
-    add_warning(findings, alloc, text, spot)
+    add_member_finding(findings, alloc, text, spot)
 }
 
 /// Adds the findings for each of these.
@@ -193,8 +203,9 @@ fn begin_of(
 
 /// The findings in a configuration's text, in the order of the text. They are the first error, as
 /// `mds_config_error::diagnose` names it, at the member or at the object that lacks it, with the fault of the zone's name;
-/// and a warning for each member that nobody reads, or whose value isn't read as it is written. In a text that is no
-/// JSON, errors are at the position where it stops being JSON, and there are no warnings.
+/// an error for each member `oversight` whose value is none of its texts; and a warning for each member that nobody
+/// reads, or whose value isn't read as it is written. In a text that is no JSON, errors are at the position where it
+/// stops being JSON, and nothing is found in members.
 ///
 /// `zoned` says what the zone's text is: what `zone_name_in` finds, with what `cli_timezone::rule_in` makes of its file.
 ///

@@ -8,12 +8,12 @@ mod grammar;
 mod lexemes;
 mod limits;
 mod located_members;
+mod member_finding;
 mod members;
 mod nearest;
 mod paths;
 mod position;
 mod walk;
-mod warning;
 mod zoning;
 
 pub use finding::{ConfigFinding, FindingKind};

@@ -13,6 +13,8 @@ pub const MOST_NAME: usize = 256;
 pub enum KnownMember {
     Author,
     Operators,
+    /// How far the author sees how each operator stands: `"none"`, `"verdicts"` or `"vehicles"`.
+    Oversight,
     /// Whether the public documents are served: `true` or `false`.
     Public,
     Zone,
@@ -31,6 +33,7 @@ impl KnownMember {
         match self {
             KnownMember::Author => "author",
             KnownMember::Operators => "operators",
+            KnownMember::Oversight => "oversight",
             KnownMember::Public => "public",
             KnownMember::Zone => "zone",
             KnownMember::Id => "id",
@@ -42,9 +45,10 @@ impl KnownMember {
 }
 
 /// The members of the configuration.
-const OF_DOCUMENT: [KnownMember; 4] = [
+const OF_DOCUMENT: [KnownMember; 5] = [
     KnownMember::Author,
     KnownMember::Operators,
+    KnownMember::Oversight,
     KnownMember::Public,
     KnownMember::Zone,
 ];

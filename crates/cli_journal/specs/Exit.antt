@@ -10,7 +10,8 @@ use Rattle.journal_recovery.specs.declared.fault.StartFault.TheVariants.{Opening
 use Rattle.journal_compaction.specs.declared.fault.CompactFault.{CompactFault}
 use Rattle.journal_compaction.specs.declared.fault.CompactFault.TheVariants as thin
 use Rattle.cli_journal.specs.declared.exit_cause.ExitCause.{ExitCause}
-use Rattle.cli_journal.specs.declared.exit_cause.ExitCause.TheVariants.{Usage, Misconfigured, NoMemory, NoListener, NoControl, NotStopped, NotPrinted, Folder, Refused, NotKept, NotThinned, Differs}
+use Rattle.cli_journal.specs.declared.exit_cause.ExitCause.TheVariants.{Usage, Misconfigured, NoOversight, NoMemory, NoListener, NoControl, NotStopped, NotPrinted, Folder, Refused, NotKept, NotThinned, Differs, NoArchive, NotArchived, ReportFolder, ReportEntry, Report}
+use Rattle.cli_journal.specs.Reports.{report_status, report_message}
 
 -- an entry that can't be replayed: 503 is out of memory, and any other is one of another configuration
 abbrev pub cause_status : Cause → ℕ
@@ -18,7 +19,7 @@ cause_status causes.NoDesk = 6
 cause_status (causes.Refused status) = if status == 503 then 3 else 6
 
 -- 1 for what can't be listened to or written to, 2 for wrong arguments or a wrong configuration, 3 for out of memory, 4
--- to 6 for a folder, 7 where a journal couldn't be written, 8 where a compacted one leads to another state
+-- to 6 for a folder, 7 where a journal couldn't be written or archived, 8 where a compacted one leads to another state
 abbrev pub exit_status : ExitCause → ℕ
 exit_status NoListener = 1
 exit_status NoControl = 1
@@ -26,12 +27,18 @@ exit_status NotStopped = 1
 exit_status NotPrinted = 1
 exit_status Usage = 2
 exit_status (Misconfigured detail) = 2
+exit_status NoOversight = 2
 exit_status NoMemory = 3
+exit_status NoArchive = 4
 exit_status (Folder fault) = folder.exit_status fault
 exit_status (Refused fault) = cause_status fault.cause
 exit_status NotKept = 7
 exit_status NotThinned = 7
+exit_status (NotArchived fault) = 7
 exit_status Differs = 8
+exit_status (ReportFolder place fault) = folder.exit_status fault
+exit_status (ReportEntry place fault) = cause_status fault.cause
+exit_status (Report fault) = report_status fault
 
 abbrev pub status_of : Result ℕ ExitCause → ℕ
 status_of (Ok status) = status
@@ -58,6 +65,7 @@ folder_message (faults.Unfitting unfit) = does_not_fit
 abbrev pub message_of : ExitCause → List ℕ
 message_of Usage = codes "ruffletuff: the arguments are wrong"
 message_of (Misconfigured detail) = codes "ruffletuff: the configuration is wrong"
+message_of NoOversight = codes "ruffletuff: the configuration is wrong"
 message_of NoMemory = out_of_memory
 message_of NoListener = codes "ruffletuff: nothing can be listened to"
 message_of NoControl = codes "ruffletuff: nothing can be listened to for control"
@@ -68,6 +76,11 @@ message_of (Refused fault) = cause_message fault.cause
 message_of NotKept = codes "ruffletuff: the journal couldn't be written any more"
 message_of NotThinned = codes "ruffletuff: the thinned journal couldn't be written"
 message_of Differs = codes "ruffletuff: the thinned journal leads to another city"
+message_of NoArchive = codes "ruffletuff: the archive can't be used"
+message_of (NotArchived fault) = codes "ruffletuff: the journal can't be archived, and isn't thinned"
+message_of (ReportFolder place fault) = folder_message fault
+message_of (ReportEntry place fault) = cause_message fault.cause
+message_of (Report fault) = report_message fault
 
 -- why a program ends whose server can't be started from its journal
 abbrev pub ending_of : StartFault → ExitCause
@@ -92,3 +105,4 @@ ending_of_thinning (thin.OldRefused fault) = ending_of fault
 ending_of_thinning thin.NotWritten = NotThinned
 ending_of_thinning (thin.NewRefused fault) = ending_of_thinned fault
 ending_of_thinning thin.Differs = Differs
+ending_of_thinning (thin.NotArchived fault) = NotArchived fault

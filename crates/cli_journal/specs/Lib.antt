@@ -1,4 +1,6 @@
 pub mod Checks
+pub mod Configuring
+pub mod Reports
 pub mod Exit
 pub mod Script
 pub mod Compaction

@@ -6,7 +6,7 @@ use crate::configuration::{configuration_in, configuration_text};
 use crate::exit_cause::ExitCause;
 use cli_args::ThinOptions;
 use journal_compaction::{CompactFault, Counts, compact_folder};
-use journal_folder::FolderFault;
+use journal_folder::{FolderFault, Folders, check_archive};
 use mds_text::Moment;
 use server_admission::{MachineClock, Moments};
 use std::alloc::AllocGlobal;
@@ -59,17 +59,37 @@ pub fn moment<R: Clock + Copy>(rt: &R) -> Moment {
     }
 }
 
+/// Checks that the folder for archived journals is there, where one is asked for.
+///
+/// # Errors
+///
+/// `NoArchive` where it isn't there, or is no folder.
+pub fn check_archive_of<R: Files<File = File>>(
+    rt: &R,
+    archive: Option<&str>,
+) -> Result<(), ExitCause> {
+    match archive {
+        Some(folder) if check_archive(rt, folder).is_err() => Err(ExitCause::NoArchive),
+        _ => Ok(()),
+    }
+}
+
 /// Compacts the journal of a folder, by the text of its configuration. What can't be finished is removed.
 ///
 /// # Errors
 ///
 /// As `ExitCause::from` says.
-fn compact_or_clear<R: Wait + Files<File = File> + Clock + AllocGlobal + Copy>(
+fn compact_or_clear<R: Wait + Folders + Files<File = File> + Clock + AllocGlobal + Copy>(
     rt: &R,
-    folder: &str,
+    asked: &ThinOptions<'_>,
     text: &[u8],
 ) -> Result<Counts, ExitCause> {
-    match compact_folder(rt, rt.alloc(), folder, text, moment(rt)) {
+    let ThinOptions {
+        folder,
+        archive,
+        ..
+    } = *asked;
+    match compact_folder(rt, rt.alloc(), folder, archive, text, moment(rt)) {
         Ok(counts) => Ok(counts),
         Err(fault) => {
             if may_leave_remains(&fault) {
@@ -81,22 +101,24 @@ fn compact_or_clear<R: Wait + Files<File = File> + Clock + AllocGlobal + Copy>(
 }
 
 /// Compacts the journal of a folder that no server has meanwhile, and prints how many records and bytes it had before,
-/// and has now.
+/// and has now. Where a folder for archived journals is given the journal is kept there first.
 ///
 /// # Errors
 ///
-/// `Misconfigured`; `Folder` where there is no journal, another program has the folder, or the journal is damaged;
+/// `Misconfigured`; `NoArchive` where there is no such folder; `NotArchived` where the journal can't be kept there;
+/// `Folder` where there is no journal, another program has the folder, or the journal is damaged;
 /// `Refused` where the configuration doesn't fit it; `NotThinned` where the disk has no room for the compacted one;
 /// `Differs`; `NoMemory`. The journal stays as it was. `NotPrinted` where it is compacted.
-pub fn compact<R: Wait + Files<File = File> + Clock + Print + AllocGlobal + Copy>(
+pub fn compact<R: Wait + Folders + Files<File = File> + Clock + Print + AllocGlobal + Copy>(
     rt: &R,
     asked: &ThinOptions<'_>,
 ) -> Result<(), ExitCause> {
     let alloc = rt.alloc();
     let text = configuration_text(rt, alloc, asked.config)?;
     drop(configuration_in(alloc, &text)?);
+    check_archive_of(rt, asked.archive)?;
     let length = bytes_of(rt, asked.folder)?;
-    let counts = compact_or_clear(rt, asked.folder, &text)?;
+    let counts = compact_or_clear(rt, asked, &text)?;
     let left = bytes_of(rt, asked.folder)?;
     // The head is a record too.
     let before = counts.before.saturating_add(1);

@@ -1,5 +1,7 @@
 //! A configuration's file: its text, findings in it, and the rule in the place of its zone's name.
-ghost use Rattle.std.specs.Prelude.{◌≤◌, length, IfOk};
+ghost use Rattle.std.specs.Prelude.{◌≡◌, ◌≤◌, length, IfOk};
+ghost use Rattle.std.specs.List.{list_any};
+ghost use Rattle.cli_journal.specs.Configuring.{is_no_oversight, refused_by};
 ghost use Rattle.mds_script.specs.declared.gather.TheConstants.{LINE_LIMIT};
 
 use crate::configuration::{check_length, text_in};
@@ -54,6 +56,35 @@ fn resolve_zone<R: Files<File = File>>(
 /// instead.
 fn is_reported_at_start(what: FindingKind) -> bool {
     !matches!(what, FindingKind::Wrong(_))
+}
+
+/// Whether what is found is a value of the member `oversight` that is none of its texts.
+fn is_no_oversight(what: FindingKind) -> bool
+    ensures { result ≡ is_no_oversight what }
+{
+    matches!(what, FindingKind::NoOversight)
+}
+
+/// Whether one of these is a value of the member `oversight` that is none of its texts.
+fn has_wrong_oversight(findings: &[ConfigFinding]) -> bool
+    ensures { result ≡ list_any (λ f. is_no_oversight f.what) findings.now }
+{
+    findings.iter().any(|finding| is_no_oversight(finding.what))
+}
+
+/// Whether a server starts with a text in which these are found.
+///
+/// # Errors
+///
+/// `NoOversight` where one is a value of the member `oversight` that is none of its texts.
+fn check_findings(findings: &[ConfigFinding]) -> Result<(), ExitCause>
+    ensures { result ≡ refused_by findings.now }
+{
+    if has_wrong_oversight(findings) {
+        Err(ExitCause::NoOversight)
+    } else {
+        Ok(())
+    }
 }
 
 impl ConfigFile {
@@ -113,23 +144,28 @@ impl ConfigFile {
     }
 
     /// Reports on standard error the findings in the file at this path, a line each, and by which rule its zone goes.
-    /// Where a server starts, findings that make the text no configuration are left out: they are reported as a fault.
+    /// Where a server starts, and none of them ends that here, findings that make the text no configuration are left
+    /// out: they are reported as a fault.
     ///
     /// # Errors
     ///
-    /// Memory ran out.
+    /// `NoOversight` where the value of a member `oversight` is none of its texts, `NoMemory`.
     pub fn report_findings<R: Eprint + AllocGlobal>(
         &self,
         rt: &R,
         path: &str,
         is_start: bool,
-    ) -> Result<(), AllocError> {
-        for finding in self.findings(rt.alloc())? {
-            if !is_start || is_reported_at_start(finding.what) {
+    ) -> Result<(), ExitCause> {
+        let findings = self.findings(rt.alloc())?;
+        let checked = check_findings(&findings);
+        let leaves_out = is_start && checked.is_ok();
+        for finding in &findings {
+            if !leaves_out || is_reported_at_start(finding.what) {
                 let line = finding.line(rt.alloc(), path)?;
                 let _ = eprintln!(rt; "{line}");
             }
         }
-        self.report_zone(rt)
+        self.report_zone(rt)?;
+        checked
     }
 }

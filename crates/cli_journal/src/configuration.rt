@@ -66,7 +66,8 @@ pub fn configuration_text<R: Files<File = File> + AllocGlobal>(
 ///
 /// # Errors
 ///
-/// `Misconfigured` where it can't be read or is longer than a line of a script may be, `NoMemory`.
+/// `Misconfigured` where it can't be read or is longer than a line of a script may be, `NoOversight` where the value of
+/// a member `oversight` is none of its texts, `NoMemory`.
 pub fn read_text_and_report<R: Files<File = File> + Eprint + AllocGlobal>(
     rt: &R,
     alloc: Global,

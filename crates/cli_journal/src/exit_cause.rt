@@ -2,8 +2,9 @@
 ghost use Rattle.std.specs.Prelude.{◌≡◌};
 ghost use Rattle.cli_journal.specs.Exit.{cause_status, exit_status, cause_message, folder_message, message_of, cause_of_thinned, ending_of_thinned};
 
+use crate::report_fault::ReportFault;
 use journal_compaction::CompactFault;
-use journal_folder::FolderFault;
+use journal_folder::{ArchiveFault, FolderFault};
 use journal_recovery::{Cause, Fault, StartFault};
 use mds_config_error::Detail;
 use mds_snapshot::OpenFault;
@@ -16,6 +17,8 @@ pub enum ExitCause {
     Usage,
     /// The configuration's file isn't a configuration.
     Misconfigured(Detail),
+    /// The member `oversight` of the configuration's file is none of its texts.
+    NoOversight,
     /// Memory ran out.
     NoMemory,
     /// The server's address can't be listened to, or threads or the polling of events couldn't be had.
@@ -36,6 +39,16 @@ pub enum ExitCause {
     NotThinned,
     /// The compacted journal leads to another state than the journal, which stays.
     Differs,
+    /// The folder for archived journals can't be used.
+    NoArchive,
+    /// The journal can't be archived, and stays.
+    NotArchived(ArchiveFault),
+    /// The journal of a report's folder with this number, counted from 0, can't be used.
+    ReportFolder(usize, FolderFault),
+    /// An entry of that journal can't be replayed.
+    ReportEntry(usize, Fault),
+    /// No report is made, and no journal is why.
+    Report(ReportFault),
 }
 
 /// The exit status where an entry can't be replayed.
@@ -84,11 +97,15 @@ impl ExitCause {
             | ExitCause::NoControl
             | ExitCause::NotStopped
             | ExitCause::NotPrinted => 1,
-            ExitCause::Usage | ExitCause::Misconfigured(_) => 2,
+            ExitCause::Usage | ExitCause::Misconfigured(_) | ExitCause::NoOversight => 2,
             ExitCause::NoMemory => 3,
-            ExitCause::Folder(fault) => fault.status(),
-            ExitCause::Refused(fault) => cause_status(fault.cause),
-            ExitCause::NotKept | ExitCause::NotThinned => 7,
+            ExitCause::NoArchive => 4,
+            ExitCause::Folder(fault) | ExitCause::ReportFolder(_, fault) => fault.status(),
+            ExitCause::Refused(fault) | ExitCause::ReportEntry(_, fault) => {
+                cause_status(fault.cause)
+            }
+            ExitCause::Report(fault) => fault.status(),
+            ExitCause::NotKept | ExitCause::NotThinned | ExitCause::NotArchived(_) => 7,
             ExitCause::Differs => 8,
         }
     }
@@ -99,17 +116,25 @@ impl ExitCause {
     {
         match self {
             ExitCause::Usage => "ruffletuff: the arguments are wrong",
-            ExitCause::Misconfigured(_) => "ruffletuff: the configuration is wrong",
+            ExitCause::Misconfigured(_) | ExitCause::NoOversight => {
+                "ruffletuff: the configuration is wrong"
+            }
             ExitCause::NoMemory => "ruffletuff: memory ran out",
             ExitCause::NoListener => "ruffletuff: nothing can be listened to",
             ExitCause::NoControl => "ruffletuff: nothing can be listened to for control",
             ExitCause::NotStopped => "ruffletuff: no server says that it stops",
             ExitCause::NotPrinted => "ruffletuff: standard output can't be written",
-            ExitCause::Folder(fault) => folder_message(fault),
-            ExitCause::Refused(fault) => cause_message(fault.cause),
+            ExitCause::Folder(fault) | ExitCause::ReportFolder(_, fault) => folder_message(fault),
+            ExitCause::Refused(fault) | ExitCause::ReportEntry(_, fault) => {
+                cause_message(fault.cause)
+            }
+            ExitCause::Report(fault) => fault.message(),
             ExitCause::NotKept => "ruffletuff: the journal couldn't be written any more",
             ExitCause::NotThinned => "ruffletuff: the thinned journal couldn't be written",
             ExitCause::Differs => "ruffletuff: the thinned journal leads to another city",
+            ExitCause::NoArchive => "ruffletuff: the archive can't be used",
+            ExitCause::NotArchived(_) =>
+                "ruffletuff: the journal can't be archived, and isn't thinned",
         }
     }
 }
@@ -144,6 +169,17 @@ impl From<FolderFault> for ExitCause {
 
     fn from(fault: FolderFault) -> ExitCause {
         ExitCause::Folder(fault)
+    }
+}
+
+impl From<ReportFault> for ExitCause {
+    ghost use Rattle.std.specs.Prelude.{◌≡◌};
+    ghost use Rattle.cli_journal.specs.declared.exit_cause.ExitCause.TheVariants.{Report};
+
+    ghost from_gives = { λ fault e. e ≡ Report fault };
+
+    fn from(fault: ReportFault) -> ExitCause {
+        ExitCause::Report(fault)
     }
 }
 
@@ -196,6 +232,7 @@ impl From<CompactFault> for ExitCause {
             CompactFault::NotWritten => ExitCause::NotThinned,
             CompactFault::NewRefused(fault) => exit_of_compacted(fault),
             CompactFault::Differs => ExitCause::Differs,
+            CompactFault::NotArchived(fault) => ExitCause::NotArchived(fault),
         }
     }
 }

@@ -86,7 +86,8 @@ fn check_readable(alloc: Global, texts: &[Vec<u8>]) -> Result<(), ExitCause> {
     Ok(())
 }
 
-/// Prints how many records and bytes the journal of a folder has, and how it ends. Nothing is locked or changed.
+/// Prints how many records and bytes the journal at a path has, a folder's or a file itself, and how it ends. Nothing is
+/// locked or changed.
 ///
 /// # Errors
 ///
@@ -94,9 +95,9 @@ fn check_readable(alloc: Global, texts: &[Vec<u8>]) -> Result<(), ExitCause> {
 /// bytes that nothing explains; `NoMemory`. `NotPrinted` where nothing is wrong with it.
 pub fn check<R: Files<File = File> + Print + AllocGlobal>(
     rt: &R,
-    folder: &str,
+    path: &str,
 ) -> Result<(), ExitCause> {
-    let bytes = journal_bytes(rt, rt.alloc(), folder)?;
+    let bytes = journal_bytes(rt, rt.alloc(), path)?;
     let Survey {
         texts,
         whole,

@@ -8,12 +8,14 @@ mod configuration;
 mod exit_cause;
 mod integrity;
 mod messages;
+mod report_fault;
 mod script;
 
-pub use compaction::{clear, compact, journal_length, moment};
+pub use compaction::{check_archive_of, clear, compact, journal_length, moment};
 pub use config_file::ConfigFile;
-pub use configuration::{configuration_in, read_text_and_report};
+pub use configuration::{configuration_in, configuration_text, read_text_and_report};
 pub use exit_cause::ExitCause;
-pub use integrity::check;
+pub use integrity::{check, check_startable};
 pub use messages::{report_exit, report_usage};
-pub use script::audit;
+pub use report_fault::{REPORT_FILES, ReportFault, ReportFile, span_of};
+pub use script::{audit, behind_head};

@@ -1,9 +1,10 @@
 //! Messages on standard error after a fault: what, where, and what is wrong.
 ghost use Rattle.std.specs.Prelude.{◌≡◌, option_map};
 ghost use Rattle.cli_args.specs.Commands.{asked_view};
-ghost use Rattle.cli_journal.specs.Messages.{config_of, listener_of, control_of, folder_of, place_in};
+ghost use Rattle.cli_journal.specs.Messages.{config_of, listener_of, control_of, folder_of, archive_of, journal_at, report_place, place_in};
 
 use crate::exit_cause::ExitCause;
+use crate::report_fault::ReportFault;
 use cli_args::{CliCommand, USAGE};
 use journal_entry::Unfit;
 use journal_folder::FolderFault;
@@ -20,6 +21,7 @@ fn config_of<'a>(asked: &CliCommand<'a>) -> Option<&'a str>
         CliCommand::Audit(audit) => Some(audit.config),
         CliCommand::Thin(thinning) => Some(thinning.config),
         CliCommand::CheckConfig(config) => Some(*config),
+        CliCommand::Report(report) => Some(report.config),
         _ => None,
     }
 }
@@ -58,12 +60,51 @@ fn folder_of<'a>(asked: &CliCommand<'a>) -> Option<&'a str>
     }
 }
 
+/// The folder of archived journals.
+fn archive_of<'a>(asked: &CliCommand<'a>) -> Option<&'a str>
+    ensures { option_map (λ place. place.now) result ≡ archive_of (asked_view asked.now) }
+{
+    match asked {
+        CliCommand::Serve(service) => service.archive,
+        CliCommand::Thin(thinning) => thinning.archive,
+        _ => None,
+    }
+}
+
+/// The folder or file with this number, counted from 0, among those whose journals a report is made of.
+fn journal_at<'a>(asked: &CliCommand<'a>, place: usize) -> Option<&'a str>
+    ensures { option_map (λ place. place.now) result ≡ journal_at (asked_view asked.now) place }
+{
+    match asked {
+        CliCommand::Report(report) => match report.folders.get(place) {
+            Some(folder) => Some(folder.as_str()),
+            None => None,
+        },
+        _ => None,
+    }
+}
+
+/// The argument that a fault of a report is about.
+fn report_place<'a>(asked: &CliCommand<'a>, fault: &ReportFault) -> Option<&'a str>
+    ensures { option_map (λ place. place.now) result ≡ report_place (asked_view asked.now) fault.now }
+{
+    let CliCommand::Report(report) = asked else {
+        return None;
+    };
+    Some(match fault {
+        ReportFault::NoFirst => report.from,
+        ReportFault::NoLast | ReportFault::NoTime => report.to,
+        ReportFault::NoOperator(_) => report.config,
+        ReportFault::NoFolder | ReportFault::Present(_) | ReportFault::NotWritten => report.out,
+    })
+}
+
 /// The file, folder or address that the fault is about.
 fn place_in<'a>(asked: &CliCommand<'a>, ending: &ExitCause) -> Option<&'a str>
     ensures { option_map (λ place. place.now) result ≡ place_in (asked_view asked.now) ending.now }
 {
     match ending {
-        ExitCause::Misconfigured(_) => config_of(asked),
+        ExitCause::Misconfigured(_) | ExitCause::NoOversight => config_of(asked),
         ExitCause::NoListener => listener_of(asked),
         ExitCause::NoControl | ExitCause::NotStopped => control_of(asked),
         ExitCause::Folder(_)
@@ -71,6 +112,11 @@ fn place_in<'a>(asked: &CliCommand<'a>, ending: &ExitCause) -> Option<&'a str>
         | ExitCause::NotKept
         | ExitCause::NotThinned
         | ExitCause::Differs => folder_of(asked),
+        ExitCause::NoArchive | ExitCause::NotArchived(_) => archive_of(asked),
+        ExitCause::ReportFolder(place, _) | ExitCause::ReportEntry(place, _) => {
+            journal_at(asked, *place)
+        }
+        ExitCause::Report(fault) => report_place(asked, fault),
         ExitCause::Usage | ExitCause::NoMemory | ExitCause::NotPrinted => None,
     }
 }
@@ -98,11 +144,42 @@ fn explain<R: Eprint + AllocGlobal>(rt: &R, ending: &ExitCause) {
         ExitCause::Misconfigured(detail) => {
             let _ = eprintln!(rt; "{detail}");
         }
-        ExitCause::Folder(FolderFault::Damaged(damage)) => {
+        ExitCause::NoOversight => {
+            let _ = eprintln!(rt; "oversight: neither \"none\", \"verdicts\" nor \"vehicles\"");
+        }
+        ExitCause::Folder(fault) | ExitCause::ReportFolder(_, fault) => explain_folder(rt, fault),
+        ExitCause::Refused(fault) | ExitCause::ReportEntry(_, fault) => explain_refusal(rt, fault),
+        ExitCause::NotArchived(fault) => {
+            let _ = eprintln!(rt; "{fault}");
+        }
+        ExitCause::Report(fault) => explain_report(rt, fault),
+        _ => {}
+    }
+}
+
+/// Reports what is wrong with a folder's journal.
+fn explain_folder<R: Eprint + AllocGlobal>(rt: &R, fault: &FolderFault) {
+    match fault {
+        FolderFault::Damaged(damage) => {
             let _ = eprintln!(rt; "{damage}");
         }
-        ExitCause::Folder(FolderFault::Unfitting(unfit)) => explain_unfit(rt, unfit),
-        ExitCause::Refused(fault) => explain_refusal(rt, fault),
+        FolderFault::Unfitting(unfit) => explain_unfit(rt, unfit),
+        _ => {}
+    }
+}
+
+/// Reports the operator that no report can be about, or the file that its folder has already.
+fn explain_report<R: Eprint + AllocGlobal>(rt: &R, fault: &ReportFault) {
+    match fault {
+        ReportFault::NoOperator(id) => {
+            if let Ok(id) = id.print(rt.alloc()) {
+                let _ = eprintln!(rt; "operator {id} isn't in it");
+            }
+        }
+        ReportFault::Present(file) => {
+            let name = file.name();
+            let _ = eprintln!(rt; "{name} is there");
+        }
         _ => {}
     }
 }

@@ -144,8 +144,8 @@ fn print_script<W: Write>(
     print_lines(alloc, out, &config, &entries)
 }
 
-/// Prints the journal of a folder as a script: the configuration on one line, then the request of each entry that is
-/// asked for. Nothing is locked or changed.
+/// Prints the journal of a folder, or a file that is one itself, as a script: the configuration on one line, then the
+/// request of each entry that is asked for. Nothing is locked or changed.
 ///
 /// # Errors
 ///

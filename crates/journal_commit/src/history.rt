@@ -119,6 +119,11 @@ pub trait LogName {
     ghost book: { Book };
 }
 
+/// The name of a log that several threads have.
+pub trait SharedLogName: LogName + Send + Sync {}
+
+impl<N: LogName + Send + Sync> SharedLogName for N {}
+
 impl LogName for Brand {
     ghost book = { record { number = 0; log_name = 0; cells_name = 0 } };
 }

@@ -22,6 +22,8 @@ pub use decisions::{
     ResponseTiming, Round, Usage, may_reserve, may_respond, next_round,
 };
 pub use flusher::{FlushFault, Flusher};
-pub use history::{CommitLedger, LogName, LogPosition, SyncedPrefix, UnnamedHistory};
+pub use history::{
+    CommitLedger, LogName, LogPosition, SharedLogName, SyncedPrefix, UnnamedHistory,
+};
 pub use space::{CountedSpace, NoRoom, Space};
 pub use sync_wait::AwaitSync;

@@ -62,7 +62,7 @@ and_right true b h = h
 and_right false b h = cc
 
 -- equality of bytes is symmetric
-turned : (xs ys : List ℕ) (b c : Bool) → bytes_eq xs ys ≡ b → bytes_eq ys xs ≡ c → b ≡ c
+pub turned : (xs ys : List ℕ) (b c : Bool) → bytes_eq xs ys ≡ b → bytes_eq ys xs ≡ c → b ≡ c
 turned xs ys true c is other = sym (same_bytes xs) ∙ subst (λ zs. bytes_eq xs xs ≡ bytes_eq zs xs) (equal_bytes xs ys is) refl ∙ other
 turned xs ys false true is other = sym is ∙ subst (λ zs. bytes_eq zs ys ≡ bytes_eq ys ys) (equal_bytes ys xs other) refl ∙ same_bytes ys
 turned xs ys false false is other = refl

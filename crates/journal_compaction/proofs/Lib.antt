@@ -1,6 +1,10 @@
 pub mod Asked
+pub mod Changes
+pub mod Clients
+pub mod Desks
 pub mod Groups
 pub mod Journals
 pub mod Known
 pub mod Loops
+pub mod Moves
 pub mod Rows

@@ -176,7 +176,7 @@ fits_entry configuration e = fits_asked configuration e (token_of configuration 
 
 module _ (configuration : Configuration) (device : Device) where
   -- a device's reports after some entries, the first one first
-  abbrev run : List Told → List Entry → List Told
+  abbrev pub run : List Told → List Entry → List Told
   run reports [] = reports
   run reports (e ∷ entries) = run (added device (kind_of configuration e) (read_report e.body) reports) entries
 
@@ -187,7 +187,7 @@ module _ (configuration : Configuration) (device : Device) where
       ∙ ap (reports_since configuration device) (append_assoc (reverse entries) (e ∷ []) before)
       ∙ run_onto entries (e ∷ before)
 
-  run_all : (entries : List Entry) → reports_since configuration device (reverse entries) ≡ run [] entries
+  pub run_all : (entries : List Entry) → reports_since configuration device (reverse entries) ≡ run [] entries
   run_all entries = ap (reports_since configuration device) (sym (append_nil (reverse entries))) ∙ run_onto entries []
 
   run_picked : (mark : Bool) (marks : List Bool) (e : Entry) (entries : List Entry) (reports : List Told)

@@ -3,6 +3,8 @@ pub mod Staying
 pub mod Passes
 pub mod Compacting
 pub mod Laws
+pub mod Changes
+pub mod Restarts
 pub mod Questions
 pub mod Replies
 pub mod Compaction

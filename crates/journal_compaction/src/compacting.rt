@@ -76,7 +76,8 @@ fn marked_entries<'a>(
 
 /// The entries of a journal that compaction keeps, in their order: of each device of an operator, since it was last
 /// removed, its last report and the one that began the run of that one's state; and whatever is no report and no
-/// removal of a device, as all of the author's. Replayed, they lead to the same drafts, publications and rows.
+/// removal of a device, as all of the author's. Replayed, they lead to the same drafts, publications and rows
+/// (`crate::laws::thinned_journal_leads_back`).
 ///
 /// The time for each entry grows with the logarithm of the number of devices.
 ///

@@ -1,7 +1,7 @@
 //! Why a journal isn't compacted.
 use journal_entry::WriteFault;
 use journal_file::{AppendFault, ReadFault, SyncFault};
-use journal_folder::FolderFault;
+use journal_folder::{ArchiveFault, FolderFault};
 use journal_recovery::StartFault;
 use mds_request::ConfigFault;
 use std::alloc::{AllocError, AllocFailed};
@@ -24,6 +24,8 @@ pub enum CompactFault {
     NewRefused(StartFault),
     /// The servers' answers to one of the questions differ.
     Differs,
+    /// The journal can't be archived.
+    NotArchived(ArchiveFault),
 }
 
 impl From<AllocError> for CompactFault {
@@ -52,6 +54,15 @@ impl From<FolderFault> for CompactFault {
         match fault {
             FolderFault::NoMemory => CompactFault::NoMemory,
             _ => CompactFault::Folder(fault),
+        }
+    }
+}
+
+impl From<ArchiveFault> for CompactFault {
+    fn from(fault: ArchiveFault) -> CompactFault {
+        match fault {
+            ArchiveFault::NoMemory => CompactFault::NoMemory,
+            _ => CompactFault::NotArchived(fault),
         }
     }
 }
@@ -91,7 +102,10 @@ impl From<ReadFault> for CompactFault {
 
 impl fmt::Display for CompactFault {
     fn fmt<W: fmt::Write>(&self, f: &mut fmt::Formatter<W>) -> fmt::Result {
-        f.write_str(match self {
+        let words = match self {
+            CompactFault::NotArchived(fault) => {
+                return write!(f, "it can't be archived: {fault}");
+            }
             CompactFault::NoMemory => "no memory",
             CompactFault::Configuration(_) => "the configuration is none",
             CompactFault::Folder(_) => "the folder can't be used",
@@ -99,6 +113,7 @@ impl fmt::Display for CompactFault {
             CompactFault::NotWritten => "the thinned journal can't be written",
             CompactFault::NewRefused(_) => "no server starts from the thinned journal",
             CompactFault::Differs => "the thinned journal leads to another server",
-        })
+        };
+        f.write_str(words)
     }
 }

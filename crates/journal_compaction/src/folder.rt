@@ -5,7 +5,10 @@ use crate::fault::CompactFault;
 use crate::journal_location::{JournalLocation, compact_at};
 use crate::prefix::check_empty;
 use journal_file::{FileStorage, Journal, Log};
-use journal_folder::{CutFiles, Folder, FolderFault, create_locked, open_folder, sync_names};
+use journal_folder::{
+    CutFiles, Folder, FolderFault, Folders, archive_in, create_locked, journal_bytes, open_folder,
+    sync_names,
+};
 use mds_text::Moment;
 use std::alloc::Global;
 use std::fs::{self, File, Files};
@@ -17,6 +20,8 @@ struct LockedFolder<'a, 'b, R: Files<File = File>> {
     rt: &'a R,
     alloc: Global,
     folder: &'b str,
+    /// The folder in which the journal is archived; `None` for nowhere.
+    archive: Option<&'b str>,
     /// Locked as long as they are open: the folder's lock, and its journal.
     locks: (File, File),
     /// Another handle of the compacted journal, which is locked as long as it is open: a program that opens the journal
@@ -42,12 +47,14 @@ fn rename<R: Files<File = File>>(rt: &R, alloc: Global, folder: &str) -> Result<
     }
 }
 
-impl<R: Files<File = File>> JournalLocation<Journal<FileStorage<File>>>
+impl<R: Folders + Files<File = File>> JournalLocation<Journal<FileStorage<File>>>
     for LockedFolder<'_, '_, R> {
     ghost use Rattle.std.specs.Prelude.{⊤};
 
     // the proofs know nothing of the contents of files
     ghost is_replaced = { λ _. ⊤ };
+
+    ghost is_archived = { λ _. ⊤ };
 
     fn create_log(&mut self) -> Result<Journal<FileStorage<File>>, FolderFault> {
         let path = format!(in self.alloc; "{}/journal.thinned", self.folder)?;
@@ -57,6 +64,15 @@ impl<R: Files<File = File>> JournalLocation<Journal<FileStorage<File>>>
             Ok(log) => check_empty(log),
             Err(fault) => Err(FolderFault::from(fault)),
         }
+    }
+
+    fn archive(&mut self) -> Result<(), CompactFault> {
+        let Some(archive) = self.archive else {
+            return Ok(());
+        };
+        let bytes = journal_bytes(self.rt, self.alloc, self.folder)?;
+        archive_in(self.rt, self.alloc, archive, &bytes)?;
+        Ok(())
     }
 
     fn replace(&mut self) -> Result<(), FolderFault> {
@@ -85,17 +101,19 @@ fn texts_in<R: Files<File = File>>(
 
 /// Compacts the journal of a city's folder, which no server may have meanwhile. It takes the folder's lock and reads
 /// the journal (a tail that isn't whole is saved next to it, and cut). It writes the compacted one to `journal.thinned`
-/// next to it, syncs that, starts a server from each and compares their answers at this moment. It renames it over the
-/// journal and syncs the folder. The configuration is its text, as `Config::read` reads it.
+/// next to it, syncs that, starts a server from each and compares their answers at this moment. It archives the journal
+/// in another folder, where one is given, renames the compacted one over it and syncs the folder. The configuration is
+/// its text, as `Config::read` reads it.
 ///
 /// # Errors
 ///
-/// Those of `compact`, and `Folder` where the folder can't be used or another program has it. The journal stays as it was,
-/// except where renaming it or syncing the folder failed: then it isn't known whether it did.
-pub fn compact_folder<R: Wait + Files<File = File>>(
+/// Those of `compact`, `NotArchived`, and `Folder` where the folder can't be used or another program has it. The journal
+/// stays as it was, except where renaming it or syncing the folder failed: then it isn't known whether it did.
+pub fn compact_folder<R: Wait + Folders + Files<File = File>>(
     rt: &R,
     alloc: Global,
     folder: &str,
+    archive: Option<&str>,
     config: &[u8],
     at: Moment,
 ) -> Result<Counts, CompactFault> {
@@ -115,6 +133,7 @@ pub fn compact_folder<R: Wait + Files<File = File>>(
         rt,
         alloc,
         folder,
+        archive,
         locks: (lock, held),
         thinned: None,
     };

@@ -16,18 +16,31 @@ use std::sync::Wait;
 /// Where a journal is, and another next to it: a folder of files, or memory in tests. A crash at any step leaves the
 /// one or the other in its place, whole.
 pub trait JournalLocation<L: Log> {
-    ghost use Rattle.std.specs.Prelude.{[], IfOk};
+    ghost use Rattle.std.specs.Prelude.{[], IfOk, OnOk};
 
     /// Another journal than at first is in the place.
     ghost is_replaced: { Self → Type 0 };
+
+    /// The journal in the place is archived, where it is to be.
+    ghost is_archived: { Self → Type 0 };
 
     /// Creates an empty log next to the journal.
     fn create_log(&mut self) -> Result<L, FolderFault>
         ensures empty { IfOk result (λ log. L.may_be log []) }
         ensures kept { is_replaced self.new → is_replaced self.old };
 
+    /// Archives the journal in the place, where it is to be, and waits until that is synced.
+    ///
+    /// # Errors
+    ///
+    /// `NotArchived`, `Folder` where the journal can't be read, or `NoMemory`.
+    fn archive(&mut self) -> Result<(), CompactFault>
+        ensures archived { OnOk result (is_archived self.new) }
+        ensures kept { is_replaced self.new → is_replaced self.old };
+
     /// Puts the log next to the journal into its place at once, and waits until that is synced.
-    fn replace(&mut self) -> Result<(), FolderFault>;
+    fn replace(&mut self) -> Result<(), FolderFault>
+        requires { is_archived self.old };
 }
 
 /// Compacts a journal in place, where both openings are named.
@@ -48,6 +61,7 @@ fn compact_both<P: JournalLocation<L>, K: OpeningName, O: OpeningName, L: Log, R
     let mut log = place.create_log()?;
     let counts = compact::<K, O, L, R>(rt, alloc, old, &mut log, (one, other))?;
     drop(log);
+    place.archive()?;
     place.replace()?;
     Ok(counts)
 }
@@ -70,12 +84,12 @@ fn compact_named<P: JournalLocation<L>, K: OpeningName, L: Log, R: Wait>(
 }
 
 /// Compacts a journal in place: the compacted one is written next to it, synced and compared, and then put into its
-/// place.
+/// place, once the old one is archived, where it is to be.
 ///
 /// # Errors
 ///
-/// Those of `compact`, and `Folder` where the place can't be used. The old journal stays in its place, unless the last
-/// step failed: then it is only known that one of the two journals is there.
+/// Those of `compact`, `NotArchived`, and `Folder` where the place can't be used. The old journal stays in its place,
+/// unless the last step failed: then it is only known that one of the two journals is there.
 pub fn compact_at<P: JournalLocation<L>, L: Log, R: Wait>(
     rt: &R,
     alloc: Global,

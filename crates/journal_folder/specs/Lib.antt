@@ -3,3 +3,4 @@ pub mod Choosing
 pub mod Script
 pub mod Files
 pub mod Damages
+pub mod Archives

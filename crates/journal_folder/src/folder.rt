@@ -99,8 +99,28 @@ pub fn open_folder<R: Files<File = File>>(
     })
 }
 
-/// Reads the bytes of a folder's journal, only to look at it: nothing is locked or changed, so a program may be writing
-/// it.
+/// Opens the journal at a path, only to look at it: a folder's, or the file itself where the path names no folder.
+fn open_journal<R: Files<File = File>>(
+    rt: &R,
+    alloc: Global,
+    path: &str,
+) -> Result<File, FolderFault> {
+    let is_folder = match fs::metadata(rt, path) {
+        Ok(found) => found.is_dir(),
+        Err(_) => return Err(FolderFault::Unusable),
+    };
+    if is_folder {
+        return open_to_read(rt, path_of(alloc, path, "journal")?.as_str());
+    }
+    match File::open(rt, path) {
+        Ok(file) => Ok(file),
+        Err(_) => Err(FolderFault::Unusable),
+    }
+}
+
+/// Reads the bytes of the journal at a path, only to look at it: nothing is locked or changed, so a program may be
+/// writing it. The journal is the folder's, or the file itself where the path names no folder: an archived journal is
+/// such a file.
 ///
 /// # Errors
 ///
@@ -108,10 +128,9 @@ pub fn open_folder<R: Files<File = File>>(
 pub fn journal_bytes<R: Files<File = File>>(
     rt: &R,
     alloc: Global,
-    folder: &str,
+    path: &str,
 ) -> Result<Vec<u8>, FolderFault> {
-    let path = path_of(alloc, folder, "journal")?;
-    let mut file = open_to_read(rt, path.as_str())?;
+    let mut file = open_journal(rt, alloc, path)?;
     let mut bytes = Vec::new(alloc);
     match file.read_to_end(&mut bytes) {
         Ok(_) => Ok(bytes),

@@ -1,8 +1,10 @@
 //! Tests of the decisions on files and on journals.
+use crate::archive::{ArchiveSlot, JournalSpan, archive_name, slot_of};
 use crate::fault::{Damage, FolderFault};
 use crate::files::{Identity, NameOwner, PathEntry, owner_of};
 use crate::survey::{damage_of, survey_of};
 use journal_file::{JournalEnding, JournalOpenFault, Signature};
+use mds_text::Moment;
 
 const OPENED: Identity = Identity {
     device: 1,
@@ -31,6 +33,25 @@ fn damage_is_described(rt: HostRuntime) {
     let words = "it doesn't begin as a journal does, but with data that was compressed with gzip";
     let told = format!(in rt.alloc(); "{}", Damage::Foreign(Signature::Gzip)).expect(&rt, "memory");
     assert!(rt; told.as_str() == words);
+}
+
+#[test]
+fn archived_journals_have_names(rt: HostRuntime) {
+    let span = JournalSpan {
+        first: Moment::new(0).expect(&rt, "a moment"),
+        last: Moment::new(4_102_444_799_999).expect(&rt, "a moment"),
+    };
+    let name = archive_name(rt.alloc(), &span, 0).expect(&rt, "memory");
+    assert!(rt; name.as_str() == "journal-0-4102444799999");
+    let name = archive_name(rt.alloc(), &span, 12).expect(&rt, "memory");
+    assert!(rt; name.as_str() == "journal-0-4102444799999.12");
+}
+
+#[test]
+fn names_with_other_bytes_are_taken(rt: HostRuntime) {
+    assert!(rt; slot_of(None, b"one") == ArchiveSlot::Free);
+    assert!(rt; slot_of(Some(b"one"), b"one") == ArchiveSlot::Same);
+    assert!(rt; slot_of(Some(b"two"), b"one") == ArchiveSlot::Taken);
 }
 
 #[test]

@@ -14,7 +14,7 @@ use server_http::{Queues, bind_first};
 use server_start::{
     HELP, HallService, ServeCommand, ServeFault, VERSION, command_of, serve, workers,
 };
-use server_state::{Hall, HallName};
+use server_state::{Hall, HallName, SharedHallName};
 use std::env::Env;
 use std::io::{self, Input};
 use std::marker::Brand;
@@ -85,7 +85,7 @@ fn open<K: HallName + Send + Sync, R: ServerRuntime>(
 }
 
 /// Binds, says so, serves by so many threads and ends the hall.
-fn listen<K: HallName + Send + Sync, R: ServerRuntime, M: Moments + Send + Sync>(
+fn listen<K: SharedHallName, R: ServerRuntime, M: Moments + Send + Sync>(
     rt: &R,
     threads: usize,
     arguments: Arguments<'_>,

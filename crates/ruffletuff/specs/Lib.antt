@@ -1,4 +1,5 @@
 pub mod Ends
 pub mod Full
 pub mod Progress
+pub mod Reports
 pub mod Starting

@@ -1,12 +1,11 @@
 //! Compacts the journal of a city while the city is served.
 
 use crate::file_swap::{FileJournal, JournalHandoff};
-use crate::folders::Folders;
 use crate::thread_job::ThreadJob;
 use cli_journal::moment;
 use journal_compaction::{AnswersAgree, CompactFault, JournalPrefix, check_empty, compact_prefix};
 use journal_file::{FileStorage, Journal, LogEnd};
-use journal_folder::{FolderFault, lock_file};
+use journal_folder::{FolderFault, Folders, archive_in, lock_file};
 use journal_swap::{CatchUpFault, CompactedLog, is_small_lag};
 use std::alloc::{AllocError, AllocGlobal, Global};
 use std::fs::File;
@@ -33,14 +32,16 @@ impl From<CompactFault> for NotOffered {
 }
 
 /// Compacts the journal of a city's folder while the city is served, in a thread of its own: it waits until the journal
-/// is due, writes a shorter one next to it, as `journal_compaction` does, brings that up to what is appended meanwhile, and
-/// hands it to the flusher.
+/// is due, writes a shorter one next to it, as `journal_compaction` does, archives the journal where that is asked for,
+/// brings the shorter one up to what is appended meanwhile, and hands it to the flusher.
 #[derive(Drop)]
 pub struct Compactor<'a, R> {
     /// The runtime, by which it waits for locks.
     pub rt: R,
     /// The city's folder.
     pub folder: &'a str,
+    /// The folder in which a journal is archived before a compacted one takes its place; `None` for nowhere.
+    pub archive: Option<&'a str>,
     /// The text of the configuration.
     pub config: &'a [u8],
     /// Where the compacted journal is handed over.
@@ -104,7 +105,16 @@ impl<R: Folders + Wait + Clock + AllocGlobal + Eprint + Copy> Compactor<'_, R> {
         }
     }
 
-    /// A compacted journal of what a journal's file has up to a log end.
+    /// Archives a journal's bytes, where an archive is asked for.
+    fn archive(&self, bytes: &[u8]) -> Result<(), CompactFault> {
+        match self.archive {
+            Some(folder) => Ok(archive_in(&self.rt, self.rt.alloc(), folder, bytes)?),
+            None => Ok(()),
+        }
+    }
+
+    /// A compacted journal of what a journal's file has up to a log end. That is archived once the two are compared:
+    /// what is appended behind it comes to stand in the compacted journal.
     fn shorten(
         &self,
         file: &mut File,
@@ -122,7 +132,9 @@ impl<R: Folders + Wait + Clock + AllocGlobal + Eprint + Copy> Compactor<'_, R> {
             seal,
             at: moment(&self.rt),
         };
-        compact_prefix(&self.rt, alloc, &front, log)
+        let shorter = compact_prefix(&self.rt, alloc, &front, log)?;
+        self.archive(&bytes)?;
+        Ok(shorter)
     }
 
     /// Brings a compacted journal up to the log end at which the journal is synced next, and gives how many bytes it

@@ -1,10 +1,9 @@
 //! Swaps the journal's file of a served city for compacted ones.
 
-use crate::folders::Folders;
 use cli_journal::ExitCause;
 use journal_compaction::AnswersAgree;
 use journal_file::{FileStorage, Journal, LogEnd};
-use journal_folder::FolderFault;
+use journal_folder::{FolderFault, Folders};
 use journal_swap::{CompactedLog, CompactionSource, Handoff, ReplaceFault};
 use server_control::{Counters, Figure};
 use std::alloc::Global;

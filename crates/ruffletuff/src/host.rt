@@ -1,6 +1,6 @@
 //! The runtimes that the program's parts need.
 
-use crate::folders::Folders;
+use journal_folder::Folders;
 use std::alloc::AllocGlobal;
 use std::io::{Eprint, Print};
 use std::random::RandomSource;

@@ -8,7 +8,6 @@ ghost use Rattle.ruffletuff.specs.Starting.{IsStartedFromLog};
 use crate::admin::AdminState;
 use crate::compactor::Compactor;
 use crate::file_swap::{FileJournal, JournalHandoff, JournalSwapper};
-use crate::folders::Folders;
 use crate::host::{ServerHost, ThreadHost};
 use crate::listening::{BoundListener, listen};
 use crate::reporting_space::ReportingSpace;
@@ -20,7 +19,7 @@ use cli_journal::{ExitCause, clear, journal_length};
 use journal_commit::{Ballast, Space, UnnamedHistory};
 use journal_compaction::AnswersAgree;
 use journal_file::{CutTail, FileStorage, HasLogEnd, Journal, Log};
-use journal_folder::{CutFiles, Folder, FolderFault, begin_journal, open_folder};
+use journal_folder::{CutFiles, Folder, FolderFault, Folders, begin_journal, open_folder};
 use journal_swap::{CompactionSchedule, CompactionSource, Handoff, SwapLog};
 use mds_desk::{AuthorRoom, Desk};
 use mds_request::Config;
@@ -136,6 +135,7 @@ where
     let thinner = Compactor {
         rt: *rt,
         folder: service.state,
+        archive: service.archive,
         config: text,
         meeting: &*meeting,
     };

@@ -8,10 +8,11 @@ use crate::controlling::serve_controlled;
 use crate::counting::counters_of;
 use crate::host::ServerHost;
 use crate::opening::{ConfigWithText, serve_city};
+use crate::reporting::report;
 use cli_args::{COMMIT, CliCommand, HELP, ServeOptions, VERSION, parse_command, version_line};
 use cli_journal::{
-    ConfigFile, ExitCause, audit, check, compact, configuration_in, read_text_and_report,
-    report_exit, report_usage,
+    ConfigFile, ExitCause, audit, check, check_archive_of, compact, configuration_in,
+    read_text_and_report, report_exit, report_usage,
 };
 use cli_transfer::run_transfer;
 use server_control::{Control, stop};
@@ -70,6 +71,7 @@ where
         CliCommand::CheckConfig(path) => check_configuration(rt, *path),
         CliCommand::Audit(extract) => audit(rt, extract),
         CliCommand::Thin(thinning) => compact(rt, thinning),
+        CliCommand::Report(options) => report(rt, options),
         CliCommand::Stop(address) => stop_server(rt, *address),
         CliCommand::Errand(errand) => return Ok(run_transfer(rt, errand)),
     };
@@ -108,7 +110,8 @@ fn print_version<R: Print + AllocGlobal>(rt: &R) -> Result<(), ExitCause> {
 ///
 /// # Errors
 ///
-/// `Misconfigured` with what is wrong, where it isn't one; `NotPrinted`, `NoMemory`.
+/// `NoOversight` where its member `oversight` is none of its texts, `Misconfigured` with what is wrong, where it isn't
+/// one; `NotPrinted`, `NoMemory`.
 fn check_configuration<R: Files<File = File> + Print + Eprint + AllocGlobal>(
     rt: &R,
     path: &str,
@@ -136,13 +139,14 @@ fn stop_server<R: Net + AllocGlobal>(rt: &R, address: &str) -> Result<(), ExitCa
 ///
 /// # Errors
 ///
-/// The configuration's, the control port's, or the fault with which the city can't be opened or its server ends.
+/// The configuration's, the archive's, the control port's, or the fault with which the city can't be opened or its server ends.
 fn serve<R>(rt: &R, service: &ServeOptions<'_>) -> Result<(), ExitCause>
 where
     R: ServerHost + Net<Listener = TcpListener, Stream = TcpStream> + Files<File = File>,
 {
     let text = read_text_and_report(rt, rt.alloc(), service.config)?;
     let config = configuration_in(rt.alloc(), &text)?;
+    check_archive_of(rt, service.archive)?;
     let closing = ShutdownHandle::new(rt.alloc())?;
     let control = Control::new();
     let counters = counters_of(rt.alloc(), &closing, &config)?;

@@ -9,7 +9,9 @@ use crate::host::ServerHost;
 use crate::listening::BoundListener;
 use crate::thread_job::{ThreadJob, run_concurrently};
 use cli_journal::ExitCause;
-use journal_commit::{CommitLog, FlushFault, Flusher, LogName, Space, UnnamedHistory, open};
+use journal_commit::{
+    CommitLog, FlushFault, Flusher, LogName, SharedLogName, Space, UnnamedHistory, open,
+};
 use journal_file::Log;
 use mds_parallel::Chunked;
 use mds_text::Id;
@@ -17,7 +19,7 @@ use server_app::OperatorNames;
 use server_durable::DurableHall;
 use server_http::{Queues, ServeOutcome, ShutdownHandle, serve_by};
 use server_site::Site;
-use server_state::{Hall, HallName};
+use server_state::{Hall, HallName, SharedHallName};
 use std::alloc::Global;
 use std::io::{self, Print};
 use std::sync::{Arc, Wait};
@@ -80,8 +82,8 @@ fn serve_to_the_end<'a, K, N, L, S, R>(
     serving: SiteServer<'a, K, N, L, S, R>,
 ) -> io::Result<ServeOutcome<Site<'a, K, N, L, S, R, Chunked<R>>>>
 where
-    K: HallName + Send + Sync,
-    N: LogName + Send + Sync,
+    K: SharedHallName,
+    N: SharedLogName,
     L: Log + Send,
     S: Space + Send,
     R: ServerHost,
@@ -105,7 +107,7 @@ where
 /// # Errors
 ///
 /// `NoMemory`.
-fn operator_names_in(alloc: Global, text: &[u8]) -> Result<OperatorNames, ExitCause>
+pub(crate) fn operator_names_in(alloc: Global, text: &[u8]) -> Result<OperatorNames, ExitCause>
     ensures { IfOk result (λ badges. read_badges text.now ≡ Ok (badges_view badges)) }
 {
     match OperatorNames::read(alloc, text) {
@@ -129,7 +131,7 @@ pub fn persist_and_serve<K, N, L, S, R>(
     stage: ServingParts<'_>,
 ) -> Result<(), ExitCause>
 where
-    K: HallName + Send + Sync,
+    K: SharedHallName,
     N: LogName + Send + Sync,
     L: Log + Send,
     S: Space + Send,
@@ -172,8 +174,8 @@ fn serve_durable_hall<'a, K, N, L, S, R>(
     stage: ServingParts<'a>,
 ) -> Result<(), ExitCause>
 where
-    K: HallName + Send + Sync,
-    N: LogName + Send + Sync,
+    K: SharedHallName,
+    N: SharedLogName,
     L: Log + Send,
     S: Space + Send,
     R: ServerHost,

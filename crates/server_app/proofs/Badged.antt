@@ -8,6 +8,8 @@ use Rattle.mds_text.specs.declared.field.Field.TheVariants.{Author as AuthorName
 use Rattle.mds_match.specs.Zone.{zone_of}
 use Rattle.mds_request.specs.Configuration.{Configuration, Operator, access_at, configuration_of, has_alike, ids, limit_at, operator_of, operators_at, operators_of, read_configuration, unlike, zone_at}
 use Rattle.mds_request.specs.declared.config.TheConstants.{MOST_OPERATORS}
+use Rattle.server_app.specs.declared.oversight.Oversight.{Oversight}
+use Rattle.server_app.specs.Oversight.{oversight_at}
 use Rattle.server_app.specs.OperatorNames.{Badge, Badges, as_name, badge_of, badges_of, name_at, read_badges}
 use Rattle.server_app.specs.Laws.{IsBadged}
 
@@ -31,6 +33,16 @@ named (text s) id is = absurd cc
 named (degrees z) id is = absurd cc
 named (list ts) id is = absurd cc
 named (object ms) id is = (_, refl)
+
+-- an object says how far the author sees
+watched : (document : Json) (entries : List Json) → required_at list_of document Operators ≡ Ok entries → (oversight : Oversight) × (oversight_at document ≡ Ok oversight)
+watched null entries is = absurd cc
+watched (boolean b) entries is = absurd cc
+watched (int z) entries is = absurd cc
+watched (text s) entries is = absurd cc
+watched (degrees z) entries is = absurd cc
+watched (list ts) entries is = absurd cc
+watched (object ms) entries is = (_, refl)
 
 one_badged : (value : Json) (operator : Operator) → operator_of value ≡ Ok operator → (badge : Badge) × (badge_of value ≡ Ok badge) × (badge.id ≡ operator.id)
 one_badged value operator is =
@@ -80,14 +92,21 @@ badged value configuration is =
     let written = first_ok (required_at text_of document.0 ZoneName) zone_of zone.0 zone.1 in
     let made : Configuration = record { author = author.0; operators = operators.0; zone = zone.0 } in
     let each_is = each_badged entries.0 operators.0 (few entries.0 operators.0 (nat_le (length entries.0) MOST_OPERATORS) entries.2) in
-    let badges : Badges = record { operators = each_is.0; zone = written.0 } in (
+    let seen = watched document.0 entries.0 entries.1 in
+    let badges : Badges = record { operators = each_is.0; oversight = seen.0; zone = written.0 } in (
       badges,
-      then_ok (document_of value) (λ d. required_at list_of d Operators >>= λ es. each badge_of es >>= λ os. required_at text_of d ZoneName >>= λ z. Ok (record { operators = os; zone = z }))
+      then_ok (document_of value)
+          (λ d. required_at list_of d Operators >>= λ es. each badge_of es >>= λ os. oversight_at d >>= λ o. required_at text_of d ZoneName >>= λ z. Ok (record { operators = os; oversight = o; zone = z }))
           document.0 badges document.1
-          (then_ok (required_at list_of document.0 Operators) (λ es. each badge_of es >>= λ os. required_at text_of document.0 ZoneName >>= λ z. Ok (record { operators = os; zone = z }))
+          (then_ok (required_at list_of document.0 Operators)
+          (λ es. each badge_of es >>= λ os. oversight_at document.0 >>= λ o. required_at text_of document.0 ZoneName >>= λ z. Ok (record { operators = os; oversight = o; zone = z }))
           entries.0 badges entries.1
-          (then_ok (each badge_of entries.0) (λ os. required_at text_of document.0 ZoneName >>= λ z. Ok (record { operators = os; zone = z })) each_is.0 badges each_is.1
-          (then_ok (required_at text_of document.0 ZoneName) (λ z. Ok (record { operators = each_is.0; zone = z })) written.0 badges written.1 refl))),
+          (then_ok (each badge_of entries.0)
+          (λ os. oversight_at document.0 >>= λ o. required_at text_of document.0 ZoneName >>= λ z. Ok (record { operators = os; oversight = o; zone = z }))
+          each_is.0 badges each_is.1
+          (then_ok (oversight_at document.0)
+          (λ o. required_at text_of document.0 ZoneName >>= λ z. Ok (record { operators = each_is.0; oversight = o; zone = z })) seen.0 badges seen.1
+          (then_ok (required_at text_of document.0 ZoneName) (λ z. Ok (record { operators = each_is.0; oversight = seen.0; zone = z })) written.0 badges written.1 refl)))),
       each_is.2 ∙ ap (λ c. ids c.operators) (unlike_is made configuration (has_alike made) zone.2),
     )
 

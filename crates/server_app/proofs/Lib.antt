@@ -1,4 +1,6 @@
 mod OneLine
 mod Ordered
+mod Listed
 mod Moments
 mod Badged
+mod Roles

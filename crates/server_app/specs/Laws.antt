@@ -22,9 +22,9 @@ abbrev pub ConfigurationsAreBadged : Type 0
 ConfigurationsAreBadged =
     (text : List ℕ) (configuration : Configuration) → read_configuration text ≡ Ok configuration → IsBadged text configuration
 
--- The answer to an operator about who it is depends on its own identifier and name, and on the zone, alone, whatever
--- the other operators' names are.
+-- The answer to an operator about who it is depends on its own identifier and name, and on how far the author sees and
+-- the zone, alone, whatever the other operators' names are.
 abbrev pub WhoGoesByOwnBadge : Type 0
 WhoGoesByOwnBadge =
-    (one other : Badges) (place : ℕ) → slice_get one.operators place ≡ slice_get other.operators place → one.zone ≡ other.zone
+    (one other : Badges) (place : ℕ) → slice_get one.operators place ≡ slice_get other.operators place → one.oversight ≡ other.oversight → one.zone ≡ other.zone
     → who_reply one (Operator place) ≡ who_reply other (Operator place)

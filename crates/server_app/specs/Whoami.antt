@@ -10,7 +10,9 @@ use Rattle.mds_request.specs.declared.config.Actor.{Actor}
 use Rattle.mds_request.specs.declared.config.Actor.TheVariants.{Author, Operator, Nobody}
 use Rattle.mds_machine.specs.Answer.{told}
 use Rattle.mds_machine.specs.Bodies.{list_json}
+use Rattle.server_app.specs.declared.oversight.Oversight.{Oversight}
 use Rattle.server_app.specs.OperatorNames.{Badge, Badges}
+use Rattle.server_app.specs.Oversight.{oversight_word}
 
 -- a name, where there is one
 abbrev pub name_members : Option (List ℕ) → List (List ℕ × Json)
@@ -24,25 +26,26 @@ badge_members badge = (codes "id", printed_id badge.id) ∷ name_members badge.n
 abbrev pub badge_json : Badge → Json
 badge_json badge = object (members_of (badge_members badge))
 
--- the client's role, and the zone in which rules are open
-abbrev pub role_members : List ℕ → List ℕ → List (List ℕ × Json)
-role_members role zone = (codes "role", text role) ∷ (codes "zone", text zone) ∷ []
+-- how far the author sees how each operator stands, the client's role, and the zone in which rules are open
+abbrev pub role_members : Oversight → List ℕ → List ℕ → List (List ℕ × Json)
+role_members oversight role zone =
+    (codes "oversight", text (oversight_word oversight)) ∷ (codes "role", text role) ∷ (codes "zone", text zone) ∷ []
 
 -- an operator, for itself
-abbrev pub operator_json : List ℕ → Badge → Json
-operator_json zone badge = object (members_of (badge_members badge ++ role_members (codes "operator") zone))
+abbrev pub operator_json : Oversight → List ℕ → Badge → Json
+operator_json oversight zone badge = object (members_of (badge_members badge ++ role_members oversight (codes "operator") zone))
 
 -- the author, with all operators
 abbrev pub author_json : Badges → Json
 author_json badges =
-    object (members_of ((codes "operators", list_json (map badge_json badges.operators)) ∷ role_members (codes "author") badges.zone))
+    object (members_of ((codes "operators", list_json (map badge_json badges.operators)) ∷ role_members badges.oversight (codes "author") badges.zone))
 
 -- the reply to the operator with this identifier and name; a refusal where there is none
-abbrev pub told_operator : List ℕ → Option Badge → Reply
-told_operator zone badge = option_map_or (λ b. told (operator_json zone b)) badge (refused Token)
+abbrev pub told_operator : Oversight → List ℕ → Option Badge → Reply
+told_operator oversight zone badge = option_map_or (λ b. told (operator_json oversight zone b)) badge (refused Token)
 
 -- Who the client is. It depends on the configuration's text and on the client, and on nothing else.
 abbrev pub who_reply : Badges → Actor → Reply
 who_reply badges Author = told (author_json badges)
-who_reply badges (Operator place) = told_operator badges.zone (slice_get badges.operators place)
+who_reply badges (Operator place) = told_operator badges.oversight badges.zone (slice_get badges.operators place)
 who_reply badges Nobody = refused Token

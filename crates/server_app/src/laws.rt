@@ -12,8 +12,8 @@ pub fn configurations_have_names()
     ensures { ConfigurationsAreBadged }
 {}
 
-/// The answer to an operator about who it is depends on its own identifier and name, and on the
-/// zone, alone.
+/// The answer to an operator about who it is depends on its own identifier and name, and on how far
+/// the author sees and the zone, alone.
 pub fn whoami_is_by_own_name()
     ensures { WhoGoesByOwnBadge }
 {}

@@ -1,10 +1,11 @@
-//! The operators' names and the zone in a configuration's text, for people.
+//! The operators' names, how far the author sees how they stand, and the zone in a configuration's text, for people.
 ghost use Rattle.std.specs.Prelude.{◌≡◌, IfSome, map, option_and_then, option_map, string_bytes};
 ghost use Rattle.mds_text.specs.Fault.{Gives, text_cause};
 ghost use Rattle.mds_text.specs.Fields.{each};
 ghost use Rattle.mds_json.specs.Node.{node_view};
 ghost use Rattle.server_app.specs.OperatorNames.{as_name, badge_of, badge_view, badges_of, badges_view, name_at, read_badges};
 
+use crate::oversight::{Oversight, oversight_at};
 use mds_json::{
     Node, NodeBuffer, document_of, member_at, object_of, required_id, required_list, required_text,
 };
@@ -22,17 +23,19 @@ pub struct OperatorName {
     pub name: Option<String>,
 }
 
-/// The operators' identifiers and names, in the configuration's order, and the zone as it is written.
+/// The operators' identifiers and names, in the configuration's order, how far the author sees how each stands, and the
+/// zone as it is written.
 #[derive(Drop)]
 pub struct OperatorNames {
     pub(crate) operators: Vec<OperatorName>,
+    pub(crate) oversight: Oversight,
     pub(crate) zone: String,
 }
 
 impl OperatorNames {
-    /// Reads a configuration's text: of each operator its `id` and its `name`, and the `zone`. A name is a text of at
-    /// most 256 bytes; any other value of that member is ignored. The text of each `mds_request::Config` can be read
-    /// so.
+    /// Reads a configuration's text: of each operator its `id` and its `name`, the `oversight` and the `zone`. A name is
+    /// a text of at most 256 bytes; any other value of that member is ignored. So is a value of `oversight` that is
+    /// none of its texts: nobody is watched. The text of each `mds_request::Config` can be read so.
     ///
     /// # Errors
     ///
@@ -44,6 +47,20 @@ impl OperatorNames {
         let tree = source.read(alloc, text)?;
         operator_names_of(alloc, &tree)
     }
+
+    /// Each operator's identifier and name, in the configuration's order.
+    pub fn operators(&self) -> &[OperatorName]
+        ensures { map badge_view result.now ≡ (badges_view self.now).operators }
+    {
+        &self.operators
+    }
+
+    /// How far the author sees how each operator stands.
+    pub fn oversight(&self) -> Oversight
+        ensures { result ≡ (badges_view self.now).oversight }
+    {
+        self.oversight
+    }
 }
 
 fn operator_names_of(alloc: Global, tree: &Node<'_>) -> Result<OperatorNames, TextFault>
@@ -52,8 +69,13 @@ fn operator_names_of(alloc: Global, tree: &Node<'_>) -> Result<OperatorNames, Te
     let document = document_of(tree)?;
     let list = required_list(alloc, document, Field::Operators)?;
     let operators = operator_names_in(alloc, list.as_slice())?;
+    let oversight = oversight_at(document)?;
     let zone = String::from_str(alloc, required_text(document, Field::Zone)?)?;
-    Ok(OperatorNames { operators, zone })
+    Ok(OperatorNames {
+        operators,
+        oversight,
+        zone,
+    })
 }
 
 /// Each operator's identifier and name, in their order, up to the first fault.

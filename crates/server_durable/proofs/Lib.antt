@@ -4,6 +4,9 @@ mod Clients
 pub mod Cities
 mod Cutting
 mod Own
+mod OwnBodies
+mod OwnTokens
+mod OwnViews
 mod Reports
 mod Responses
 mod Runs

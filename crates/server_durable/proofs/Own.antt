@@ -15,12 +15,14 @@ use Rattle.server_routes.specs.declared.app.Question.{Question}
 use Rattle.server_routes.specs.declared.app.Question.TheVariants.{Whoami, Withdrawals, Drafts}
 
 pub told_own : (one other : Configuration) (named renamed : Badges) (place : ℕ) (publications : List Publication) (question : Question)
-    → slice_get one.operators place ≡ slice_get other.operators place → slice_get named.operators place ≡ slice_get renamed.operators place → named.zone ≡ renamed.zone
+    → slice_get one.operators place ≡ slice_get other.operators place → slice_get named.operators place ≡ slice_get renamed.operators place → named.oversight ≡ renamed.oversight → named.zone ≡ renamed.zone
     → operator_told one named place publications question ≡ operator_told other renamed place publications question
-told_own one other named renamed place publications Whoami same alike zone =
-    ap (λ z. told_operator z (slice_get named.operators place)) zone ∙ ap (told_operator renamed.zone) alike
-told_own one other named renamed place publications Withdrawals same alike zone = ap (own_withdrawals publications) same
-told_own one other named renamed place publications Drafts same alike zone = refl
+told_own one other named renamed place publications Whoami same alike oversight zone =
+    ap (λ o. told_operator o named.zone (slice_get named.operators place)) oversight
+    ∙ ap (λ z. told_operator renamed.oversight z (slice_get named.operators place)) zone
+    ∙ ap (told_operator renamed.oversight renamed.zone) alike
+told_own one other named renamed place publications Withdrawals same alike oversight zone = ap (own_withdrawals publications) same
+told_own one other named renamed place publications Drafts same alike oversight zone = refl
 
 -- an operator's withdrawals, by its identifier
 pub own_is : (publications : List Publication) (operator : Option Named) (id : List ℕ) → option_map (λ o. o.id) operator ≡ Some id

@@ -11,6 +11,7 @@ use Rattle.mds_request.specs.declared.config.Actor.{Actor}
 use Rattle.mds_request.specs.declared.config.Actor.{Actor}
 use Rattle.server_state.specs.Respond as hall
 use Rattle.server_state.specs.Response.{Says}
+use Rattle.server_state.specs.Turn.{SaysOne}
 use Rattle.server_routes.specs.App.{app_of}
 use Rattle.server_durable.specs.DurableResponse.{IsAnswered, IsAnsweredBy, IsRecordedTurn, IsTold}
 use Rattle.server_durable.specs.People.{IsToldReply, SaysTold}
@@ -60,6 +61,11 @@ waits_for P reply result response is p = ok_more result (λ s. waits_more (reply
 pub waits_told : {V E : Type 0} (Kind : Reply → Type 0) (reply : V → Option (Response (Full (List ℕ)))) (result : Result V E) (told : Reply)
     → IfOk result (λ s. Waits (λ response. Says response told) (reply s)) → IsToldReply Kind told → IfOk result (λ s. Waits (SaysTold Kind) (reply s))
 waits_told Kind reply result told says is = ok_more result (λ s. waits_more (reply s) (λ response here. (told, is, here))) says
+
+-- the response with a reply of this kind
+pub waits_one : {V E : Type 0} (Kind : Reply → Type 0) (reply : V → Option (Response (Full (List ℕ)))) (result : Result V E) (told : Reply)
+    → IfOk result (λ s. Waits (λ response. Says response told) (reply s)) → Kind told → IfOk result (λ s. Waits (SaysOne Kind) (reply s))
+waits_one Kind reply result told says is = ok_more result (λ s. waits_more (reply s) (λ response here. (told, is, here))) says
 
 told_more : {Kind Other : Reply → Type 0} → ((reply : Reply) → Kind reply → Other reply) → (reply : Reply) → IsToldReply Kind reply → IsToldReply Other reply
 told_more imply reply (inl is) = inl (imply reply is)

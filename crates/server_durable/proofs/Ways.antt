@@ -20,18 +20,22 @@ use Rattle.server_state.specs.Client.{IsWithin}
 use Rattle.server_state.specs.Early.{or_else, unheard, unknown}
 use Rattle.server_state.specs.WholeRequest.{IsHeard, request_heard}
 use Rattle.server_state.specs.Response.{Says}
+use Rattle.server_state.specs.Turn.{SaysOne}
 use Rattle.server_state.specs.declared.whole_request.WholeRequest.{WholeRequest}
 use Rattle.server_state.proofs.Clients.{is_within}
 use Rattle.server_state.proofs.Resolving.{heard_call}
 use Rattle.server_routes.specs.App.{app_of}
 use Rattle.server_routes.specs.State.{app_call, own_call, state_call}
 use Rattle.server_routes.specs.declared.app.AppCall.{AppCall}
-use Rattle.server_routes.specs.declared.app.AppCall.TheVariants.{Events, Told}
+use Rattle.server_routes.specs.declared.app.AppCall.TheVariants.{Events, Fleet, FleetOf, NoOperator, Told}
+use Rattle.server_routes.specs.declared.app.FleetView.{FleetView}
+use Rattle.server_routes.specs.declared.app.FleetView.TheVariants.{Compliance, Vehicles}
 use Rattle.server_routes.specs.declared.app.Question.{Question}
 use Rattle.server_routes.specs.declared.app.Question.TheVariants.{Whoami, Withdrawals, Drafts}
 use Rattle.server_routes.specs.declared.state.StateCall.{StateCall}
-use Rattle.server_routes.specs.declared.state.StateCall.TheVariants.{Call as OfProtocol, Reports, AuthorAsks, OperatorAsks}
+use Rattle.server_routes.specs.declared.state.StateCall.TheVariants.{Call as OfProtocol, Reports, AuthorAsks, OperatorAsks, OwnFleet, OperatorFleet, EachCompliance}
 use Rattle.server_durable.specs.DurableResponse.{Answers, IsAnswered, IsAnsweredBy, IsRecordedTurn, IsTold}
+use Rattle.server_durable.specs.FleetViews.{IsEachCompliance, IsOwnView, IsViewOf}
 use Rattle.server_durable.specs.Many.{ManyAreAnswered}
 use Rattle.server_durable.specs.People.{SaysTold, TellsAuthor, TellsOperator}
 use Rattle.server_durable.specs.CacheControl.{Waits}
@@ -49,6 +53,9 @@ IsWay actor called (Ok (OfProtocol call)) = called ≡ Ok call
 IsWay actor called (Ok (Reports place)) = actor ≡ Operator place
 IsWay actor called (Ok (AuthorAsks question)) = actor ≡ Author
 IsWay actor called (Ok (OperatorAsks place question)) = actor ≡ Operator place
+IsWay actor called (Ok (OwnFleet place view)) = actor ≡ Operator place
+IsWay actor called (Ok (OperatorFleet view id)) = actor ≡ Author
+IsWay actor called (Ok EachCompliance) = actor ≡ Author
 IsWay actor called (Err code) = Unit {0}
 
 beside : (actor : Actor) (call : Result AppCall Code) (called : Result Call Code) → IsWay actor called (app_call actor call)
@@ -56,11 +63,18 @@ beside Nobody call called = tt
 beside Author (Err code) called = tt
 beside Author (Ok Events) called = tt
 beside Author (Ok (Told question)) called = refl
+beside Author (Ok (Fleet Compliance)) called = refl
+beside Author (Ok (Fleet Vehicles)) called = tt
+beside Author (Ok (FleetOf view id)) called = refl
+beside Author (Ok NoOperator) called = tt
 beside (Operator place) (Err code) called = tt
 beside (Operator place) (Ok Events) called = refl
 beside (Operator place) (Ok (Told Whoami)) called = refl
 beside (Operator place) (Ok (Told Withdrawals)) called = refl
 beside (Operator place) (Ok (Told Drafts)) called = tt
+beside (Operator place) (Ok (Fleet view)) called = refl
+beside (Operator place) (Ok (FleetOf view id)) called = tt
+beside (Operator place) (Ok NoOperator) called = tt
 
 of_protocol : (actor : Actor) (called : Result Call Code) → IsWay actor called (own_call called)
 of_protocol actor (Ok call) = refl
@@ -107,6 +121,11 @@ module _ (configuration : Configuration) (request : Request) (call : Result Stat
   client_within place question is =
       subst (IsWithin (length configuration.operators)) (its_way (Ok (OperatorAsks place question)) is) (is_within configuration request.token)
 
+  -- so has one that asks for a view of its own fleet
+  pub owner_within : (place : ℕ) (view : FleetView) → call ≡ Ok (OwnFleet place view) → place < length configuration.operators
+  owner_within place view is =
+      subst (IsWithin (length configuration.operators)) (its_way (Ok (OwnFleet place view)) is) (is_within configuration request.token)
+
 -- ---- the response
 
 -- the response by what the head is resolved to
@@ -115,6 +134,9 @@ Gives configuration badges actor request stamp response (Ok (OfProtocol call)) =
 Gives configuration badges actor request stamp response (Ok (Reports place)) = ManyAreAnswered configuration place request stamp response
 Gives configuration badges actor request stamp response (Ok (AuthorAsks question)) = SaysTold (TellsAuthor configuration badges question) response
 Gives configuration badges actor request stamp response (Ok (OperatorAsks place question)) = SaysTold (TellsOperator configuration badges place question) response
+Gives configuration badges actor request stamp response (Ok (OwnFleet place view)) = SaysOne (IsOwnView configuration place view request.at) response
+Gives configuration badges actor request stamp response (Ok (OperatorFleet view id)) = SaysOne (IsViewOf configuration badges view id request.at) response
+Gives configuration badges actor request stamp response (Ok EachCompliance) = SaysOne (IsEachCompliance configuration badges request.at) response
 Gives configuration badges actor request stamp response (Err code) = Says response (refused code)
 
 module _ (configuration : Configuration) (badges : Badges) (request : Request) (stamp : List (List ℕ)) (response : Response (Full (List ℕ))) where
@@ -146,12 +168,19 @@ module _ (configuration : Configuration) (badges : Badges) (request : Request) (
     tells Author (Some (Err code)) asks says = says
     tells Author (Some (Ok Events)) asks says = says
     tells Author (Some (Ok (Told question))) asks says = says
+    tells Author (Some (Ok (Fleet Compliance))) asks says = says
+    tells Author (Some (Ok (Fleet Vehicles))) asks says = says
+    tells Author (Some (Ok (FleetOf view id))) asks says = says
+    tells Author (Some (Ok NoOperator)) asks says = says
     tells (Operator place) None asks gives = by_turn (Operator place) asks refl (called_at (Operator place) request.verb (segments_of request.target)) refl gives
     tells (Operator place) (Some (Err code)) asks says = says
     tells (Operator place) (Some (Ok Events)) asks answered = answered
     tells (Operator place) (Some (Ok (Told Whoami))) asks says = says
     tells (Operator place) (Some (Ok (Told Withdrawals))) asks says = says
     tells (Operator place) (Some (Ok (Told Drafts))) asks says = (refused Role, inl (λ publications. refl), says)
+    tells (Operator place) (Some (Ok (Fleet view))) asks says = says
+    tells (Operator place) (Some (Ok (FleetOf view id))) asks says = says
+    tells (Operator place) (Some (Ok NoOperator)) asks says = says
 
   told_by : (call : Result StateCall Code) → IsResolved configuration request call
       → Gives configuration badges (actor_of configuration request.token) request stamp response call → Tells (actor_of configuration request.token) (app_of request)

@@ -4,7 +4,7 @@ use Rattle.http.specs.declared.request.Parts.{Parts}
 use Rattle.http.specs.declared.response.Response.{Response}
 use Rattle.http_body_util.specs.declared.full.Full.{Full}
 use Rattle.server_app.specs.OperatorNames.{Badges}
-use Rattle.mds_request.specs.declared.code.Code.TheVariants.{Role}
+use Rattle.mds_request.specs.declared.code.Code.TheVariants.{BadId, Role}
 use Rattle.mds_request.specs.Configuration.{Configuration, actor_of}
 use Rattle.mds_request.specs.Request.{Request}
 use Rattle.mds_request.specs.Reply.{Reply, refused}
@@ -18,14 +18,17 @@ use Rattle.server_state.specs.HttpRequest.{request_in}
 use Rattle.server_state.specs.Early.{early}
 use Rattle.server_state.specs.Respond.{TurnGives}
 use Rattle.server_state.specs.Response.{Says}
+use Rattle.server_state.specs.Turn.{SaysOne}
 use Rattle.server_routes.specs.App.{app_of}
+use Rattle.server_durable.specs.FleetViews.{IsEachCompliance, IsOwnView, IsViewOf}
 use Rattle.server_durable.specs.Many.{ManyAreAnswered}
 use Rattle.server_durable.specs.Records.{HasRecord}
 use Rattle.server_durable.specs.People.{SaysTold, TellsAuthor, TellsOperator}
 use Rattle.server_durable.specs.Refusals.{SaysUnheld}
 use Rattle.server_durable.specs.CacheControl.{Waits}
 use Rattle.server_routes.specs.declared.app.AppCall.{AppCall}
-use Rattle.server_routes.specs.declared.app.AppCall.TheVariants.{Events, Told}
+use Rattle.server_routes.specs.declared.app.AppCall.TheVariants.{Events, Fleet, FleetOf, NoOperator, Told}
+use Rattle.server_routes.specs.declared.app.FleetView.TheVariants.{Compliance, Vehicles}
 
 -- One turn for the client gives the reply. If a journal persists that exchange, its record is among these payloads.
 pub record IsRecordedTurn (configuration : Configuration) (actor : Actor) (request : Request) (reply : Reply) (stamp : List (List ℕ)) : Type 0 where
@@ -43,13 +46,20 @@ abbrev pub IsAnsweredBy : Configuration → Actor → Request → List (List ℕ
 IsAnsweredBy configuration actor request stamp response = SaysUnheld response ⊎ IsCarriedOutBy configuration actor request stamp response
 
 -- The response to a call outside the protocol: a refusal, where the path doesn't have the method; the answers to an
--- operator's reports; or the answer to the client's question, which has no record.
+-- operator's reports; or the answer to the client's question or a view of fleets, which have no record.
 abbrev pub IsTold : Configuration → Badges → Actor → Request → Result AppCall Code → List (List ℕ) → Response (Full (List ℕ)) → Type 0
 IsTold configuration badges actor request (Err code) stamp response = Says response (refused code)
 IsTold configuration badges (Operator place) request (Ok Events) stamp response = ManyAreAnswered configuration place request stamp response
 IsTold configuration badges Author request (Ok Events) stamp response = Says response (refused Role)
 IsTold configuration badges (Operator place) request (Ok (Told question)) stamp response = SaysTold (TellsOperator configuration badges place question) response
 IsTold configuration badges Author request (Ok (Told question)) stamp response = SaysTold (TellsAuthor configuration badges question) response
+IsTold configuration badges (Operator place) request (Ok (Fleet view)) stamp response = SaysOne (IsOwnView configuration place view request.at) response
+IsTold configuration badges (Operator place) request (Ok (FleetOf view id)) stamp response = Says response (refused Role)
+IsTold configuration badges (Operator place) request (Ok NoOperator) stamp response = Says response (refused Role)
+IsTold configuration badges Author request (Ok (Fleet Compliance)) stamp response = SaysOne (IsEachCompliance configuration badges request.at) response
+IsTold configuration badges Author request (Ok (Fleet Vehicles)) stamp response = Says response (refused Role)
+IsTold configuration badges Author request (Ok NoOperator) stamp response = Says response (refused BadId)
+IsTold configuration badges Author request (Ok (FleetOf view id)) stamp response = SaysOne (IsViewOf configuration badges view id request.at) response
 IsTold configuration badges Nobody request (Ok call) stamp response = ⊥
 
 -- the path says which of the two it is

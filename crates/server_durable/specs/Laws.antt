@@ -1,5 +1,5 @@
 -- The laws of a city's responses.
-use Rattle.std.specs.Prelude.{◌≡◌, ◌⊎◌, ℕ, true, false, List, [], ◌++◌, filter, Option, None, Some, IsSome, slice_get}
+use Rattle.std.specs.Prelude.{◌≡◌, ◌⊎◌, ℕ, true, false, List, [], ◌++◌, filter, Option, None, Some, IsSome, Ok, slice_get}
 use Rattle.std.specs.List.{AllByRecursion, filter_map}
 use Rattle.http.specs.declared.request.Parts.{Parts}
 use Rattle.http.specs.declared.response.Response.{Response}
@@ -11,7 +11,9 @@ use Rattle.server_state.specs.Response.{Says}
 use Rattle.server_state.specs.Turn.{DeskRuns}
 use Rattle.server_admission.specs.declared.arrival.Arrived.{Arrived}
 use Rattle.mds_request.specs.Call.{path_of}
-use Rattle.mds_request.specs.Configuration.{Configuration, actor_of}
+use Rattle.mds_desk.specs.Desk.{DeskState, TakesTurn}
+use Rattle.mds_request.specs.Configuration.{Configuration, Operator, actor_of, read_configuration}
+use Rattle.mds_request.specs.declared.config.Actor.TheVariants.{Operator as OperatorAt}
 use Rattle.mds_request.specs.Request.{Request, verb_of}
 use Rattle.mds_request.specs.Reply.{Reply}
 use Rattle.journal_laws.specs.Persisted.{is_kept}
@@ -20,10 +22,12 @@ use Rattle.server_app.specs.Withdrawals.{withdrawal_of, withdrawals}
 use Rattle.mds_catalog.specs.Publication.{Publication, is_meant_for, published_policies}
 use Rattle.server_routes.specs.App.{app_at, app_of}
 use Rattle.server_durable.specs.DurableResponse.{Answers, IsCarriedOut}
+use Rattle.server_durable.specs.FleetViews.{own_request}
 use Rattle.server_durable.specs.Many.{AreCarriedOutBy, AreRefusedBehind, SaysAll, exchanges}
 use Rattle.server_durable.specs.Records.{HasRecord}
 use Rattle.server_durable.specs.People.{operator_told}
 use Rattle.server_durable.specs.Refusals.{SaysUnheld}
+use Rattle.server_routes.specs.declared.app.FleetView.{FleetView}
 use Rattle.server_routes.specs.declared.app.Question.{Question}
 
 module _ {L : Type 0} (may_be : L → List (List ℕ) → Type 0) (is_synced : L → Type 0) where
@@ -74,7 +78,7 @@ abbrev pub OperatorsAreToldTheirOwn : Type 0
 OperatorsAreToldTheirOwn =
     (one other : Configuration) (named renamed : Badges) (place : ℕ) (publications : List Publication) (question : Question)
     → slice_get one.operators place ≡ slice_get other.operators place
-    → slice_get named.operators place ≡ slice_get renamed.operators place → named.zone ≡ renamed.zone
+    → slice_get named.operators place ≡ slice_get renamed.operators place → named.oversight ≡ renamed.oversight → named.zone ≡ renamed.zone
     → operator_told one named place publications question ≡ operator_told other renamed place publications question
 
 -- An operator's withdrawals are of policies that its own answers show: each of those that are meant for it and are
@@ -84,3 +88,19 @@ WithdrawalsAreOfOwnPolicies =
     (publications : List Publication) (operator : List ℕ)
     → withdrawals publications (Some operator)
     ≡ filter_map (withdrawal_of publications) (filter (λ p. is_meant_for operator p.document) (published_policies publications))
+
+-- The request by which a view of an operator's fleet is asked for is that operator's own: its access token is the
+-- operator's.
+abbrev pub ViewsAreAskedByTheOperator : Type 0
+ViewsAreAskedByTheOperator =
+    (text : List ℕ) (configuration : Configuration) (place : ℕ) (operator : Operator) (view : FleetView) (at : ℕ)
+    → read_configuration text ≡ Ok configuration → slice_get configuration.operators place ≡ Some operator
+    → actor_of configuration (own_request operator view at).token ≡ OperatorAt place
+
+-- A turn on such a request leaves the operator's rows as they were: who asks for a view changes nothing for the
+-- operator.
+abbrev pub ViewsLeaveRows : Type 0
+ViewsLeaveRows =
+    (d next : DeskState) (operator : Operator) (view : FleetView) (at : ℕ) (reply : Reply)
+    → slice_get d.configuration.operators d.place ≡ Some operator → TakesTurn d (own_request operator view at) reply next
+    → next.rows ≡ d.rows

@@ -13,7 +13,7 @@ ghost use Rattle.server_durable.specs.Refusals.{SaysUnheldFor, refusal_for};
 ghost use Rattle.server_durable.specs.CacheControl.{Waits};
 
 use crate::cache_control::mark_unstored;
-use crate::context::Context;
+use crate::context::{Context, TurnRuntime};
 use crate::pending::{NoResponse, ResponseAfterSync};
 use crate::record_commit::{RecordCommit, RecordPayload};
 use crate::records::{
@@ -234,7 +234,7 @@ impl<K: HallName, N: LogName, L: Log, S: Space> DurableHall<K, N, L, S> {
     /// # Errors
     ///
     /// The log failed.
-    pub(crate) fn room_turn<T: RecordPayload, R: Wait + Copy + Drop>(
+    pub(crate) fn room_turn<T: RecordPayload, R: TurnRuntime>(
         &self,
         rt: &R,
         call: AuthorCall,
@@ -266,7 +266,7 @@ impl<K: HallName, N: LogName, L: Log, S: Space> DurableHall<K, N, L, S> {
     /// # Errors
     ///
     /// The log failed, or out of memory for a reference to the commit log: the reservation is released then.
-    pub(crate) fn room_turn_of<R: Wait + Copy + Drop>(
+    pub(crate) fn room_turn_of<R: TurnRuntime>(
         &self,
         rt: &R,
         call: AuthorCall,

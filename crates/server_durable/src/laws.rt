@@ -1,5 +1,5 @@
 //! Laws of a city's responses. The functions do nothing: their contracts are the laws.
-ghost use Rattle.server_durable.specs.Laws.{AppCallsAreNotKept, ManyAreKept, OperatorsAreToldTheirOwn, RecordedAreKept, RespondsAsAHall, WithdrawalsAreOfOwnPolicies};
+ghost use Rattle.server_durable.specs.Laws.{AppCallsAreNotKept, ManyAreKept, OperatorsAreToldTheirOwn, RecordedAreKept, RespondsAsAHall, ViewsAreAskedByTheOperator, ViewsLeaveRows, WithdrawalsAreOfOwnPolicies};
 
 use journal_file::Log;
 
@@ -31,4 +31,14 @@ pub fn withdrawals_are_of_own_policies()
 /// Where the log has room, a city responds to a call of the protocol as a hall does.
 pub fn responds_as_a_hall()
     ensures { RespondsAsAHall }
+{}
+
+/// A view of an operator's fleet is asked for by a request with that operator's access token.
+pub fn views_are_asked_by_the_operator()
+    ensures { ViewsAreAskedByTheOperator }
+{}
+
+/// A view of an operator's fleet leaves its vehicles as they were.
+pub fn views_leave_vehicles()
+    ensures { ViewsLeaveRows }
 {}

@@ -6,6 +6,7 @@ mod batch;
 mod cache_control;
 mod context;
 mod durable_hall;
+mod fleet_views;
 pub mod laws;
 mod many;
 mod pending;
@@ -19,7 +20,7 @@ mod responding;
 mod service;
 
 pub use batch::MOST_REPORTS;
-pub use context::Context;
+pub use context::{Context, TurnRuntime};
 pub use durable_hall::DurableHall;
 pub use pending::{NoResponse, ResponseAfterSync};
 pub use pending_response::PendingResponse;

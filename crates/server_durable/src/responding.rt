@@ -8,8 +8,9 @@ ghost use Rattle.server_durable.specs.DurableResponse.{CityResponds, IsAnsweredB
 ghost use Rattle.server_durable.specs.Records.{IsReserved};
 ghost use Rattle.server_durable.specs.CacheControl.{Waits};
 
-use crate::context::Context;
+use crate::context::{Context, TurnRuntime};
 use crate::durable_hall::{AnswerAtPosition, DurableHall};
+use crate::fleet_views::{answer_each_compliance, answer_operator_fleet, answer_own_fleet};
 use crate::many::many_reports;
 use crate::pending::{NoResponse, ResponseAfterSync};
 use crate::people::{answer_author, answer_operator};
@@ -23,7 +24,6 @@ use mds_verdict::Evaluator;
 use server_admission::Arrived;
 use server_routes::{ResolvedState, StateCall};
 use server_state::{HallName, WholeRequest, read_whole};
-use std::sync::Wait;
 
 /// Answers the request of a head and the body that arrived for it, at this moment of the machine's clock. The head
 /// already says which client asks, and for what. What the table of calls refuses is refused at once. Any other response
@@ -34,14 +34,7 @@ use std::sync::Wait;
 /// `Crowded` where the client's share of the log is used up: nothing was carried out, and the request may be tried
 /// again. Else no response may be sent: the log failed, or out of memory for the response, and the request may have
 /// been carried out.
-pub fn respond<
-    K: HallName,
-    N: LogName,
-    R: Wait + Copy + Drop,
-    E: Evaluator<Catalogue>,
-    L: Log,
-    S: Space,
->(
+pub fn respond<K: HallName, N: LogName, R: TurnRuntime, E: Evaluator<Catalogue>, L: Log, S: Space>(
     context: &Context<'_, R, E>,
     head: &ResolvedState<K>,
     arrived: &Arrived,
@@ -55,28 +48,28 @@ pub fn respond<
         Ok(heard) => heard,
         Err(code) => return city.refuse(context.alloc, code),
     };
-    match head.call() {
-        Ok(StateCall::Call(call)) => answer_call(context, call, heard, city),
-        Ok(StateCall::Reports(place)) => many_reports(context, place, &heard, city),
+    match &head.call() {
+        Ok(StateCall::Call(call)) => answer_call(context, *call, heard, city),
+        Ok(StateCall::Reports(place)) => many_reports(context, *place, &heard, city),
         Ok(StateCall::AuthorAsks(question)) => {
-            answer_author(context.rt, context.alloc, question, city)
+            answer_author(context.rt, context.alloc, *question, city)
         }
         Ok(StateCall::OperatorAsks(place, question)) => {
-            answer_operator(context.rt, context.alloc, place, question, city)
+            answer_operator(context.rt, context.alloc, *place, *question, city)
         }
-        Err(code) => city.refuse(context.alloc, code),
+        Ok(StateCall::OwnFleet(place, view)) => {
+            answer_own_fleet(context, *place, *view, heard.moment(), city)
+        }
+        Ok(StateCall::OperatorFleet(view, id)) => {
+            answer_operator_fleet(context, *view, *id, heard.moment(), city)
+        }
+        Ok(StateCall::EachCompliance) => answer_each_compliance(context, heard.moment(), city),
+        Err(code) => city.refuse(context.alloc, *code),
     }
 }
 
 /// Answers a request that is this call of the protocol: reserves what the call needs of the log, and carries it out.
-fn answer_call<
-    K: HallName,
-    N: LogName,
-    R: Wait + Copy + Drop,
-    E: Evaluator<Catalogue>,
-    L: Log,
-    S: Space,
->(
+fn answer_call<K: HallName, N: LogName, R: TurnRuntime, E: Evaluator<Catalogue>, L: Log, S: Space>(
     context: &Context<'_, R, E>,
     call: Call,
     heard: WholeRequest<'_>,
@@ -102,14 +95,7 @@ fn answer_call<
 /// # Errors
 ///
 /// The log failed.
-fn carry_out<
-    K: HallName,
-    N: LogName,
-    R: Wait + Copy + Drop,
-    E: Evaluator<Catalogue>,
-    L: Log,
-    S: Space,
->(
+fn carry_out<K: HallName, N: LogName, R: TurnRuntime, E: Evaluator<Catalogue>, L: Log, S: Space>(
     context: &Context<'_, R, E>,
     call: Call,
     heard: WholeRequest<'_>,

@@ -5,7 +5,7 @@ ghost use Rattle.server_routes.specs.Endpoint.{AsksFile, AsksPublic, AsksState};
 ghost use Rattle.server_routes.specs.declared.resolved.ResolvedHead.TheVariants.{Asset, Public, State};
 ghost use Rattle.server_durable.specs.DurableResponse.{CityResponds};
 
-use crate::context::Context;
+use crate::context::{Context, TurnRuntime};
 use crate::durable_hall::DurableHall;
 use crate::pending::NoResponse;
 use crate::pending_response::PendingResponse;
@@ -20,7 +20,6 @@ use server_http::Crowded;
 use server_routes::{ResolvedHead, ResolvedState, resolve};
 use server_state::HallName;
 use std::alloc::Global;
-use std::sync::Wait;
 
 /// A city, the evaluator of its vehicles, and the clock that gives each request its moment.
 #[derive(Drop)]
@@ -40,7 +39,7 @@ pub struct DurableService<K: HallName, N: LogName, R, E, M, L: Log, S: Space> {
 impl<
     K: HallName,
     N: LogName,
-    R: Wait + Copy + Drop,
+    R: TurnRuntime,
     E: Evaluator<Catalogue> + Drop,
     M: Moments,
     L: Log,

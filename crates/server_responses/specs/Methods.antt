@@ -1,18 +1,25 @@
 -- The methods of a path.
-use Rattle.std.specs.Prelude.{ℕ, List, [], ◌∷◌, ◌++◌, codes, filter, map, Option, Some, None}
-use Rattle.mds_request.specs.Call.{Row, fits, row, table, word}
+use Rattle.std.specs.Prelude.{ℕ, List, [], ◌∷◌, ◌++◌, codes, filter, if◌then◌else◌, map, Option, Some, None}
+use Rattle.mds_request.specs.Call.{Row, fits, id, row, table, word}
 use Rattle.mds_request.specs.declared.request.Verb.{Verb}
 use Rattle.mds_request.specs.declared.request.Verb.TheVariants.{Get, Put, Post, Delete, Other}
 use Rattle.server_responses.specs.declared.methods.Methods.{Methods}
 use Rattle.server_responses.specs.declared.methods.Methods.TheVariants as methods
 
--- the calls outside the protocol's, by method and path
+-- many reports in one body: a path that is this call's alone
+abbrev pub events_row : Row
+events_row = row Post (word "app" ∷ word "fleet" ∷ word "events" ∷ []) None None
+
+-- the other calls outside the protocol's, by method and path
 abbrev pub beside : List Row
 beside =
-    row Post (word "app" ∷ word "fleet" ∷ word "events" ∷ []) None None
-    ∷ row Get (word "app" ∷ word "whoami" ∷ []) None None
+    row Get (word "app" ∷ word "whoami" ∷ []) None None
     ∷ row Get (word "app" ∷ word "withdrawals" ∷ []) None None
     ∷ row Get (word "app" ∷ word "drafts" ∷ []) None None
+    ∷ row Get (word "app" ∷ word "compliance" ∷ []) None None
+    ∷ row Get (word "app" ∷ word "compliance" ∷ id ∷ []) None None
+    ∷ row Get (word "app" ∷ word "fleet" ∷ []) None None
+    ∷ row Get (word "app" ∷ word "fleet" ∷ id ∷ []) None None
     ∷ []
 
 -- a method's name (RFC 9110, section 9.1)
@@ -34,10 +41,18 @@ abbrev pub methods_in : List Row → Option (List ℕ)
 methods_in [] = None
 methods_in (found ∷ rows) = Some (listed (map (λ r. name_of r.verb) (found ∷ rows)))
 
+-- the rows whose path has these segments
+abbrev pub rows_with : List (List ℕ) → List Row → List Row
+rows_with segments rows = filter (λ r. fits r.path segments) rows
+
+-- the rows outside the protocol's with these segments
+abbrev pub beside_at : List (List ℕ) → List Row
+beside_at segments = if fits events_row.path segments then events_row ∷ [] else rows_with segments beside
+
 -- The methods at a path with these segments, of the protocol's calls and of those next to it, as `allow` lists them
 -- (RFC 9110, section 10.2.1).
 abbrev pub methods_at : List (List ℕ) → Option (List ℕ)
-methods_at segments = methods_in (filter (λ r. fits r.path segments) (table ++ beside))
+methods_at segments = methods_in (rows_with segments table ++ beside_at segments)
 
 -- the list for one of the sets of methods
 abbrev pub text_of : Methods → List ℕ

@@ -60,7 +60,18 @@ fn in_app(segment: &str) -> Option<Methods>
     ensures { option_map text_of result ≡ methods_at (all_some (codes "app" ∷ segment.now ∷ [])) }
 {
     match segment {
-        "whoami" | "withdrawals" | "drafts" => Some(Methods::Get),
+        "whoami" | "withdrawals" | "drafts" | "compliance" | "fleet" => Some(Methods::Get),
+        _ => None,
+    }
+}
+
+/// The methods of a path in a folder of `/app`.
+fn behind_app(folder: &str, segment: &str) -> Option<Methods>
+    ensures { option_map text_of result ≡ methods_at (all_some (codes "app" ∷ folder.now ∷ segment.now ∷ [])) }
+{
+    match folder {
+        "fleet" if segment == "events" => Some(Methods::Post),
+        "fleet" | "compliance" if !segment.is_empty() => Some(Methods::Get),
         _ => None,
     }
 }
@@ -94,7 +105,7 @@ fn at_three(first: &str, second: &str, third: &str) -> Option<Methods>
     match (first, second) {
         ("drafts", _) => in_drafts(second, third),
         ("fleet", "vehicles") if !third.is_empty() => Some(Methods::Delete),
-        ("app", "fleet") if third == "events" => Some(Methods::Post),
+        ("app", _) => behind_app(second, third),
         _ => None,
     }
 }

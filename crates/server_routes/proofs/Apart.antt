@@ -1,5 +1,5 @@
 -- No two of the tables share a path.
-use Rattle.std.proofs.Common.{◌≡◌, ◌++◌, ◌∷◌, [], List, ℕ, Bool, true, false, cond, codes, take, drop, bytes_eq, if◌then◌else◌, IsSome, Option, Some, None, refl, sym, ap, subst, ◌∙◌}
+use Rattle.std.proofs.Common.{◌≡◌, ◌++◌, ◌∷◌, [], List, ℕ, Bool, true, false, cond, codes, take, drop, bytes_eq, if◌then◌else◌, ◌&&◌, IsSome, Option, Some, None, option_map, refl, sym, ap, subst, ◌∙◌}
 use Rattle.std.specs.Prelude.{find}
 use Rattle.std.specs.List.{list_any, slice_split}
 use Rattle.std.specs.Option.{option_or}
@@ -12,9 +12,11 @@ use Rattle.server_page.specs.declared.file.File.TheVariants.{IndexHtml, PageCss,
 use Rattle.server_routes.specs.Target.{asked_by, geography_at, identifier, list_at, policy_at}
 use Rattle.server_routes.specs.declared.public_target.PublicTarget.TheVariants.{Policies, Policy, Geographies, Geography}
 use Rattle.mds_request.specs.Call.{behind_slash, is_empty, is_slash, rows_at, segments_in}
-use Rattle.server_routes.specs.App.{call_at, events_path, whoami_path, withdrawals_path, drafts_path}
+use Rattle.server_routes.specs.App.{call_at, compliance_path, drafts_path, events_path, fleet_at, fleet_of, fleet_path, is_segment, fleet_call, segment_in, whoami_path, withdrawals_path}
 use Rattle.server_routes.specs.Endpoint.{TablesAreApart}
-use Rattle.server_routes.specs.declared.app.AppCall.TheVariants.{Events, Told}
+use Rattle.server_routes.specs.declared.app.AppCall.TheVariants.{Events, Fleet, Told}
+use Rattle.server_routes.specs.declared.app.FleetView.{FleetView}
+use Rattle.server_routes.specs.declared.app.FleetView.TheVariants.{Compliance, Vehicles}
 use Rattle.server_routes.specs.declared.app.Question.TheVariants.{Whoami, Withdrawals, Drafts}
 
 -- the table of calls has no row for this path
@@ -124,25 +126,43 @@ by_public : (path : List ℕ) → IsSome (asked_by path) → IsUncalled path
 by_public path =
     either (list_at path) _ (IsUncalled path) (by_list path) (either (policy_at path) (geography_at path) (IsUncalled path) (by_policy path) (by_geography path))
 
--- the calls outside the protocol's
-events : NoRow events_path
-events = none_at events_path refl
+-- no row begins as the paths of the calls outside the protocol's do
+in_app : (rest : List ℕ) → NoRow (codes "/app/" ++ rest)
+in_app rest =
+    let path = codes "/app/" ++ rest in
+    let segments = codes "app" ∷ slice_split is_slash rest in
+    chosen (is_utf8 path) (behind_slash (slice_split is_slash path)) (some (list_any is_empty segments) segments refl)
 
-whoami : NoRow whoami_path
-whoami = none_at whoami_path refl
+-- where both of two tests hold the first holds
+first_of : (a b : Bool) → a && b ≡ true → a ≡ true
+first_of true b is = refl
+first_of false b is = absurd cc
 
-withdrawals : NoRow withdrawals_path
-withdrawals = none_at withdrawals_path refl
+-- what is made of something is there only where that is
+made_of : {A B : Type 0} (f : A → B) (o : Option A) → IsSome (option_map f o) → IsSome o
+made_of f None is = is
+made_of f (Some a) is = refl
 
-drafts : NoRow drafts_path
-drafts = none_at drafts_path refl
+by_fleet_of : (view : FleetView) (n : ℕ) (path folder : List ℕ) → ((rest : List ℕ) → NoRow (folder ++ rest)) → IsSome (fleet_of view n folder path) → NoRow path
+by_fleet_of view n path folder none is =
+    tested (bytes_eq (take n path) folder && is_segment (drop n path)) (drop n path) None (NoRow path)
+    (λ both. behind NoRow n path folder none (first_of (bytes_eq (take n path) folder) (is_segment (drop n path)) both)) (λ nothing. absurd cc)
+    (made_of (λ segment. fleet_call view (identifier segment)) (segment_in n folder path) is)
+
+by_fleet : (path : List ℕ) → IsSome (fleet_at path) → NoRow path
+by_fleet path =
+    tested (bytes_eq path compliance_path) (Fleet Compliance) _ (NoRow path) (at_path NoRow path compliance_path (in_app (codes "compliance")))
+    (tested (bytes_eq path fleet_path) (Fleet Vehicles) _ (NoRow path) (at_path NoRow path fleet_path (in_app (codes "fleet")))
+    (either (fleet_of Compliance 16 (codes "/app/compliance/") path) (fleet_of Vehicles 11 (codes "/app/fleet/") path) (NoRow path)
+    (by_fleet_of Compliance 16 path (codes "/app/compliance/") (λ rest. in_app (codes "compliance/" ++ rest)))
+    (by_fleet_of Vehicles 11 path (codes "/app/fleet/") (λ rest. in_app (codes "fleet/" ++ rest)))))
 
 pub by_app : (path : List ℕ) → IsSome (call_at path) → rows_at (segments_in path) ≡ []
 by_app path =
-    tested (bytes_eq path events_path) Events _ (NoRow path) (at_path NoRow path events_path events)
-    (tested (bytes_eq path whoami_path) (Told Whoami) _ (NoRow path) (at_path NoRow path whoami_path whoami)
-    (tested (bytes_eq path withdrawals_path) (Told Withdrawals) _ (NoRow path) (at_path NoRow path withdrawals_path withdrawals)
-    (tested (bytes_eq path drafts_path) (Told Drafts) None (NoRow path) (at_path NoRow path drafts_path drafts) (λ none. absurd cc))))
+    tested (bytes_eq path events_path) Events _ (NoRow path) (at_path NoRow path events_path (in_app (codes "fleet/events")))
+    (tested (bytes_eq path whoami_path) (Told Whoami) _ (NoRow path) (at_path NoRow path whoami_path (in_app (codes "whoami")))
+    (tested (bytes_eq path withdrawals_path) (Told Withdrawals) _ (NoRow path) (at_path NoRow path withdrawals_path (in_app (codes "withdrawals")))
+    (tested (bytes_eq path drafts_path) (Told Drafts) _ (NoRow path) (at_path NoRow path drafts_path (in_app (codes "drafts"))) (by_fleet path))))
 
 pub are_apart : (path : List ℕ) → TablesAreApart path
 are_apart path =

@@ -1,2 +1,3 @@
 mod Identified
 pub mod Apart
+mod Segments

@@ -1,4 +1,4 @@
+pub mod Target
 pub mod App
 pub mod State
-pub mod Target
 pub mod Endpoint

@@ -8,7 +8,7 @@ mod public_target;
 mod resolved;
 mod state;
 
-pub use app::{AppCall, Question, app_at, path_of};
+pub use app::{AppCall, FleetView, Question, app_at, path_of};
 pub use public_target::PublicTarget;
 pub use resolved::{ResolvedHead, resolve};
 pub use state::{ResolvedState, StateCall};

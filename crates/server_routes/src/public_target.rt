@@ -25,7 +25,7 @@ const POLICY: usize = 18;
 const GEOGRAPHY: usize = 21;
 
 /// The identifier at the end of a path.
-fn identifier(text: &[u8]) -> Option<Id>
+pub(crate) fn identifier(text: &[u8]) -> Option<Id>
     ensures { result ≡ identifier text.now }
 {
     match str::from_utf8(text) {

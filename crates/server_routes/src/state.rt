@@ -4,10 +4,13 @@ ghost use Rattle.mds_request.specs.Configuration.{actor_of};
 ghost use Rattle.mds_request.specs.Request.{verb_of};
 ghost use Rattle.server_state.specs.HttpRequest.{target_of, token_of};
 ghost use Rattle.server_routes.specs.State.{app_call, own_call, state_call, state_cost};
+ghost use Rattle.std.specs.Prelude.{Ok};
+ghost use Rattle.mds_request.specs.declared.config.Actor.TheVariants.{Author, Operator};
 
-use crate::app::{AppCall, Question};
+use crate::app::{AppCall, FleetView, Question};
 use http::request::Parts;
 use mds_request::{Actor, Call, Code};
+use mds_text::Id;
 use server_admission::{Cost, cost_of};
 use server_state::HallName;
 use std::marker::PhantomData;
@@ -23,6 +26,12 @@ pub enum StateCall {
     AuthorAsks(Question),
     /// A question of the operator at this index outside the protocol.
     OperatorAsks(usize, Question),
+    /// A view of its own fleet, of the operator at this index.
+    OwnFleet(usize, FleetView),
+    /// A view of the fleet of the operator with this identifier, for the author.
+    OperatorFleet(FleetView, Id),
+    /// Each operator's compliance, for the author.
+    EachCompliance,
 }
 
 /// A head that asks for something of the city's state: its client, and its call or the first
@@ -37,25 +46,54 @@ pub struct ResolvedState<K: HallName> {
     ghost calls: { call ≡ state_call actor (verb_of parts.method) (target_of parts.uri) },
 }
 
-/// A call outside the protocol's, by its client. Only an operator sends reports, and only the
-/// author sees drafts.
+/// A call of the author outside the protocol's. It sends no reports, and has no vehicles of its own.
 ///
 /// # Errors
 ///
-/// `Token` for an anonymous client, else the refusal that was found, else `Role`.
+/// `Role`, or `BadId` where the path of an operator's fleet ends with no identifier.
+fn author_call(found: &AppCall) -> Result<StateCall, Code>
+    ensures { result ≡ app_call Author (Ok found.now) }
+{
+    match found {
+        AppCall::Events | AppCall::Fleet(FleetView::Vehicles) => Err(Code::Role),
+        AppCall::Told(question) => Ok(StateCall::AuthorAsks(*question)),
+        AppCall::Fleet(FleetView::Compliance) => Ok(StateCall::EachCompliance),
+        AppCall::FleetOf(view, id) => Ok(StateCall::OperatorFleet(*view, *id)),
+        AppCall::NoOperator => Err(Code::BadId),
+    }
+}
+
+/// A call outside the protocol's of the operator at this index. It sees no drafts and no other
+/// operator's fleet.
+///
+/// # Errors
+///
+/// `Role`.
+fn operator_call(place: usize, found: AppCall) -> Result<StateCall, Code>
+    ensures { result ≡ app_call (Operator place) (Ok found) }
+{
+    match found {
+        AppCall::Events => Ok(StateCall::Reports(place)),
+        AppCall::Told(Question::Drafts) | AppCall::FleetOf(..) | AppCall::NoOperator => {
+            Err(Code::Role)
+        }
+        AppCall::Told(question) => Ok(StateCall::OperatorAsks(place, question)),
+        AppCall::Fleet(view) => Ok(StateCall::OwnFleet(place, view)),
+    }
+}
+
+/// A call outside the protocol's, by its client.
+///
+/// # Errors
+///
+/// `Token` for an anonymous client, else the refusal that was found, else `Role` or `BadId`.
 pub(crate) fn app_call(actor: Actor, found: Result<AppCall, Code>) -> Result<StateCall, Code>
     ensures { result ≡ app_call actor found }
 {
-    match (actor, found) {
-        (Actor::Nobody, _) => Err(Code::Token),
-        (_, Err(code)) => Err(code),
-        (Actor::Author, Ok(AppCall::Events)) => Err(Code::Role),
-        (Actor::Author, Ok(AppCall::Told(question))) => Ok(StateCall::AuthorAsks(question)),
-        (Actor::Operator(place), Ok(AppCall::Events)) => Ok(StateCall::Reports(place)),
-        (Actor::Operator(_), Ok(AppCall::Told(Question::Drafts))) => Err(Code::Role),
-        (Actor::Operator(place), Ok(AppCall::Told(question))) => {
-            Ok(StateCall::OperatorAsks(place, question))
-        }
+    match actor {
+        Actor::Nobody => Err(Code::Token),
+        Actor::Author => author_call(&found?),
+        Actor::Operator(place) => operator_call(place, found?),
     }
 }
 
@@ -79,6 +117,8 @@ fn cost(call: &Result<StateCall, Code>, length: usize) -> Cost
         | Ok(StateCall::OperatorAsks(_, Question::Whoami)) => Cost::Free,
         Ok(StateCall::Call(call)) => cost_of(call, length),
         Ok(StateCall::Reports(_)) => Cost::Exclusive,
+        Ok(StateCall::OwnFleet(..) | StateCall::OperatorFleet(..)) => Cost::Exclusive,
+        Ok(StateCall::EachCompliance) => Cost::Exclusive,
         Ok(StateCall::AuthorAsks(_)) | Ok(StateCall::OperatorAsks(_, _)) => Cost::Shared,
     }
 }

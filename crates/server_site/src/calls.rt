@@ -29,6 +29,8 @@ pub fn kind_of(call: &Result<StateCall, Code>) -> CallKind
         Ok(StateCall::Call(call)) => kind_of_own(call),
         Ok(StateCall::Reports(_)) => CallKind::Change,
         Ok(StateCall::AuthorAsks(_) | StateCall::OperatorAsks(..)) | Err(_) => CallKind::Read,
+        Ok(StateCall::OwnFleet(..) | StateCall::OperatorFleet(..)) => CallKind::Read,
+        Ok(StateCall::EachCompliance) => CallKind::Read,
     }
 }
 

@@ -28,7 +28,7 @@ use mds_request::Actor;
 use mds_verdict::Evaluator;
 use server_admission::{Arrived, Cost};
 use server_control::{MeteredReply, RequestTimer};
-use server_durable::PendingResponse;
+use server_durable::{PendingResponse, TurnRuntime};
 use server_http::{Crowded, RequestService};
 use server_page::File;
 use server_responses::{HintedReply, HttpResult};
@@ -75,7 +75,7 @@ where
     N: LogName,
     L: Log,
     S: Space,
-    R: Wait + Clock + Copy + Drop,
+    R: TurnRuntime + Clock,
     E: Evaluator<Catalogue> + Drop,
 {
     /// The pending response of the city.
@@ -108,7 +108,7 @@ where
     N: LogName,
     L: Log,
     S: Space,
-    R: Wait + Clock + Copy + Drop,
+    R: TurnRuntime + Clock,
     E: Evaluator<Catalogue> + Drop,
 {
     type Head = ResolvedHead<K>;

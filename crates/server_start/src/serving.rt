@@ -4,7 +4,7 @@ use crate::hall_service::HallService;
 use mds_parallel::Chunked;
 use server_admission::Moments;
 use server_http::{ConnectionRuntime, Queues, ServeOutcome, serve_up_to};
-use server_state::HallName;
+use server_state::SharedHallName;
 use std::io;
 use tokio::net::TcpListener;
 use tokio::runtime::Runtime;
@@ -23,7 +23,7 @@ pub fn serve<K, R, M>(
     connections: Option<usize>,
 ) -> io::Result<()>
 where
-    K: HallName + Send + Sync,
+    K: SharedHallName,
     R: ConnectionRuntime,
     M: Moments + Send + Sync,
 {

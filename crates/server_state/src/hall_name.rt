@@ -12,6 +12,11 @@ pub trait HallName: OpeningName {
     ghost configuration: { Configuration };
 }
 
+/// The name of a hall that several threads have.
+pub trait SharedHallName: HallName + Send + Sync {}
+
+impl<K: HallName + Send + Sync> SharedHallName for K {}
+
 impl HallName for Brand {
     ghost use Rattle.std.specs.Prelude.{[], pos};
     ghost use Rattle.mds_match.specs.Zone.{fixed};

@@ -16,7 +16,7 @@ mod whole_request;
 pub use answering::{HallContext, respond, respond_with};
 pub use early::read_whole;
 pub use hall::Hall;
-pub use hall_name::HallName;
+pub use hall_name::{HallName, SharedHallName};
 pub use http_request::{target, token};
 pub use locks::{HallDesk, HallRoom};
 pub use resolved::ResolvedCall;

@@ -94,7 +94,23 @@ impl<K: HallName> HallDesk<K> {
         ensures place { self.new.place ≡ self.old.place }
     {
         let request = heard.request();
-        let reply = take_turn(&request, &mut self.desk, note, gate, evaluator);
+        self.answer_request(&request, note, gate, evaluator)
+    }
+
+    /// The same for a request that came by no head of its own.
+    pub fn answer_request<G: Gate, E: Evaluator<Catalogue>>(
+        &mut self,
+        request: &Request<'_>,
+        note: Option<&Note<K>>,
+        gate: &mut G,
+        evaluator: &E,
+    ) -> SharedReply
+        requires { E.may_judge }
+        ensures turn { TakesToldTurn (state_of self.old.desk) (option_copied note.entry) (request_of request.now) result (state_of self.new.desk) }
+        ensures replies { DeskReplies K.configuration self.old.place (request_of request.now) result }
+        ensures place { self.new.place ≡ self.old.place }
+    {
+        let reply = take_turn(request, &mut self.desk, note, gate, evaluator);
         store_count(&self.desk, &self.vehicles);
         reply
     }

@@ -40,8 +40,8 @@ impl<'a> WholeRequest<'a> {
         }
     }
 
-    /// The moment.
-    fn moment(&self) -> Moment
+    /// The moment, in milliseconds since the Unix epoch.
+    pub fn moment(&self) -> Moment
         ensures { result ≡ self.now.at }
     {
         Moment::new(self.at as i64).unwrap()

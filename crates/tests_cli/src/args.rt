@@ -1,5 +1,6 @@
 //! Tests of what arguments ask for, and of the version line.
 use cli_args::{CliCommand, TokenSource, Transfer, parse_command, version_line};
+use mds_text::Id;
 use std::alloc::{AllocError, AllocGlobal};
 use std::test::Fail;
 
@@ -49,6 +50,30 @@ fn takes_a_name_of_the_control_port(rt: HostRuntime) -> Result<(), Fail> {
 }
 
 #[test]
+fn takes_an_archive(rt: HostRuntime) -> Result<(), Fail> {
+    let line = "serve --config c --archive a --state s --listen l";
+    match parse_command(&words_in(&rt, line)?) {
+        Some(CliCommand::Serve(service)) => assert!(rt; service.archive == Some("a")),
+        _ => assert!(rt; false),
+    }
+    match parse_command(&words_in(&rt, "thin s --archive a --config c")?) {
+        Some(CliCommand::Thin(thinning)) => {
+            assert!(rt; thinning.archive == Some("a"));
+            assert!(rt; thinning.folder == "s" && thinning.config == "c");
+        }
+        _ => assert!(rt; false),
+    }
+    match parse_command(&words_in(&rt, "thin s --config c")?) {
+        Some(CliCommand::Thin(thinning)) => assert!(rt; thinning.archive.is_none()),
+        _ => assert!(rt; false),
+    }
+    for line in ["thin s --config c --archive", "thin s --archive a"] {
+        assert!(rt; parse_command(&words_in(&rt, line)?).is_none());
+    }
+    Ok(())
+}
+
+#[test]
 fn checks_a_configuration(rt: HostRuntime) -> Result<(), Fail> {
     let words = words_in(&rt, "check --config city.json")?;
     assert!(rt;
@@ -81,5 +106,50 @@ fn takes_a_token_from_one_place(rt: HostRuntime) -> Result<(), Fail> {
     }
     let line = "import policies a.json --to here --token city --token-file t";
     assert!(rt; parse_command(&words_in(&rt, line)?).is_none());
+    Ok(())
+}
+
+#[test]
+fn reports_on_operators(rt: HostRuntime) -> Result<(), Fail> {
+    let line =
+        "report city before --config c --from 2026-11-01 --operator 00000000-0000-4000-8000-0000000000a1 --to 0 \
+                --operator 00000000-0000-4000-8000-0000000000b1 --out folder";
+    match &parse_command(&words_in(&rt, line)?) {
+        Some(CliCommand::Report(report)) => {
+            assert!(rt; report.folders.len() == 2);
+            assert!(rt; report.folders[1].as_str() == "before");
+            assert!(rt; report.from == "2026-11-01");
+            assert!(rt; report.to == "0");
+            assert!(rt; report.every == 5);
+            let operators = report.operators(rt.alloc())?;
+            assert!(rt; operators.len() == 2);
+            let second = Id::read("00000000-0000-4000-8000-0000000000b1");
+            assert!(rt; operators[1] == second.expect(&rt, "an identifier"));
+        }
+        _ => assert!(rt; false),
+    }
+    Ok(())
+}
+
+#[test]
+fn reports_by_good_options_alone(rt: HostRuntime) -> Result<(), Fail> {
+    let good = "report city --config c --from 0 --to 1 --out o";
+    assert!(rt;
+        matches!(
+            parse_command(&words_in(&rt, good)?),
+            Some(CliCommand::Report(_))
+        )
+    );
+    for line in [
+        "report --config c --from 0 --to 1 --out o",
+        "report city --config c --from 0 --to 1",
+        "report city --config c --from 0 --to 1 --out o --out p",
+        "report city --config c --from 0 --to 1 --out o --every 0",
+        "report city --config c --from 0 --to 1 --out o --every 1441",
+        "report city --config c --from 0 --to 1 --out o --operator alfa",
+        "report city --config c --from 0 --to 1 --out o --operator",
+    ] {
+        assert!(rt; parse_command(&words_in(&rt, line)?).is_none());
+    }
     Ok(())
 }

@@ -1,7 +1,7 @@
 //! A disk in memory, of which one call fails, or each one from a call on.
-use journal_compaction::JournalLocation;
+use journal_compaction::{CompactFault, JournalLocation};
 use journal_file::{Journal, Log, MemoryStorage, Storage, StorageFault};
-use journal_folder::FolderFault;
+use journal_folder::{ArchiveFault, FolderFault};
 use std::alloc::Global;
 use std::cell::{Cell, RefCell};
 
@@ -24,6 +24,8 @@ pub(crate) struct Disk {
     alloc: Global,
     journal: RefCell<Vec<u8>>,
     beside: RefCell<Vec<u8>>,
+    /// The journal that was archived last.
+    archived: RefCell<Vec<u8>>,
     /// How many bytes of the file next to the journal are synced.
     synced: Cell<usize>,
     calls_left: Cell<u32>,
@@ -45,6 +47,7 @@ impl Disk {
             alloc,
             journal: RefCell::new(log.into_storage().bytes),
             beside: RefCell::new(beside),
+            archived: RefCell::new(Vec::new(alloc)),
             synced: Cell::new(0),
             calls_left: Cell::new(calls),
             failing,
@@ -58,7 +61,17 @@ impl Disk {
 
     /// The payloads of the journal, as they are read once it is opened; `None` where memory ran out.
     pub(crate) fn texts(&self) -> Option<Vec<Vec<u8>>> {
-        let bytes = copy_of(self.alloc, &self.journal).ok()?;
+        self.texts_in(&self.journal)
+    }
+
+    /// The payloads of the journal that was archived last; `None` where memory ran out.
+    pub(crate) fn archived_texts(&self) -> Option<Vec<Vec<u8>>> {
+        self.texts_in(&self.archived)
+    }
+
+    /// The payloads of the journal in a cell, as they are read once it is opened; `None` where memory ran out.
+    fn texts_in(&self, cell: &RefCell<Vec<u8>>) -> Option<Vec<Vec<u8>>> {
+        let bytes = copy_of(self.alloc, cell).ok()?;
         let mut log = Journal::open(self.alloc, memory(bytes)).ok()?;
         log.read_from(0).ok()
     }
@@ -189,6 +202,8 @@ impl<'d> JournalLocation<Journal<NewFileStorage<'d>>> for JournalOnDisk<'d> {
     // the proofs know nothing of the bytes in cells
     ghost is_replaced = { λ _. ⊤ };
 
+    ghost is_archived = { λ _. ⊤ };
+
     fn create_log(&mut self) -> Result<Journal<NewFileStorage<'d>>, FolderFault> {
         let disk = self.disk;
         if !disk.empties() {
@@ -202,6 +217,22 @@ impl<'d> JournalLocation<Journal<NewFileStorage<'d>>> for JournalOnDisk<'d> {
             Ok(texts) if texts.is_empty() => Ok(log),
             Ok(_) => Err(FolderFault::Unusable),
             Err(fault) => Err(FolderFault::from(fault)),
+        }
+    }
+
+    fn archive(&mut self) -> Result<(), CompactFault> {
+        let disk = self.disk;
+        if !disk.is_answered() {
+            return Err(CompactFault::NotArchived(ArchiveFault::Unusable));
+        }
+        let bytes = match copy_of(disk.alloc, &disk.journal) {
+            Ok(bytes) => bytes,
+            Err(StorageFault::NoMemory) => return Err(CompactFault::NoMemory),
+            Err(StorageFault::Failed) => return Err(CompactFault::Folder(FolderFault::Unusable)),
+        };
+        match disk.archived.try_replace(bytes) {
+            Ok(_) => Ok(()),
+            Err(_) => Err(CompactFault::NotArchived(ArchiveFault::Unusable)),
         }
     }
 

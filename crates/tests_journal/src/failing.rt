@@ -4,7 +4,7 @@ use crate::journal::{COMPACTED, OLD, texts};
 use crate::runtime::TestRuntime;
 use journal_compaction::{CompactFault, Counts, SourceJournal, compact_at};
 use journal_file::Journal;
-use journal_folder::FolderFault;
+use journal_folder::{ArchiveFault, FolderFault};
 use mds_text::Moment;
 use std::alloc::Global;
 use std::process::Abort;
@@ -12,9 +12,9 @@ use std::sync::Wait;
 use tests_fixtures::CONFIGURATION;
 
 /// How many calls on a disk succeed before the last one of a compaction: one to make an empty file, three to open and
-/// read it, two to append the head and the entries, one to read them back, one to sync them, and one to rename the
-/// file. The last one syncs the file names.
-const LAST: u32 = 9;
+/// read it, two to append the head and the entries, one to read them back, one to sync them, one to archive the old
+/// journal, and one to rename the file. The last one syncs the file names.
+const LAST: u32 = 10;
 
 /// The old journal was compacted.
 const SIX_TO_FIVE: CompactionOutcome = CompactionOutcome::Thinned(Counts {
@@ -43,8 +43,9 @@ enum CompactionOutcome {
 /// The outcome that a fault stands for.
 fn outcome_of(fault: CompactFault) -> CompactionOutcome {
     match fault {
-        CompactFault::NotWritten | CompactFault::Folder(FolderFault::Unusable) =>
-            CompactionOutcome::NotAnswered,
+        CompactFault::NotWritten
+        | CompactFault::Folder(FolderFault::Unusable)
+        | CompactFault::NotArchived(ArchiveFault::Unusable) => CompactionOutcome::NotAnswered,
         CompactFault::NoMemory => CompactionOutcome::NoMemory,
         _ => CompactionOutcome::Refused,
     }
@@ -109,9 +110,15 @@ fn has_journal(rt: &impl Abort, disk: &Disk, texts: &[Vec<u8>]) -> bool {
     standing.as_slice() == texts
 }
 
+/// Whether the journal that a disk archived last has these payloads.
+fn has_archived(rt: &impl Abort, disk: &Disk, texts: &[Vec<u8>]) -> bool {
+    let archived = disk.archived_texts().expect(rt, "an archived journal");
+    archived.as_slice() == texts
+}
+
 /// Compacts on a disk on which so many calls succeed. Then the fault is reported, and the old journal is still there;
 /// or the compacted one, where it was renamed and it isn't known whether that is synced. A second call on the mended
-/// disk succeeds, and then the compacted journal is there.
+/// disk succeeds, and then the compacted journal is there. Whichever journal was replaced is archived.
 fn fails<R: TestRuntime>(rt: &R, calls: u32, failing: FailingCalls) {
     let alloc = rt.alloc();
     let old = texts(alloc, OLD).expect(rt, "a journal");
@@ -122,6 +129,7 @@ fn fails<R: TestRuntime>(rt: &R, calls: u32, failing: FailingCalls) {
         "at call {calls}"
     );
     let (standing, again) = if calls == LAST {
+        assert!(rt; has_archived(rt, &disk, &old));
         (&thinned, FIVE_TO_FIVE)
     } else {
         (&old, SIX_TO_FIVE)
@@ -129,6 +137,7 @@ fn fails<R: TestRuntime>(rt: &R, calls: u32, failing: FailingCalls) {
     assert!(rt; has_journal(rt, &disk, standing), "at call {calls}");
     disk.mend();
     assert!(rt; compact_on(rt, alloc, &disk) == again, "at call {calls}");
+    assert!(rt; has_archived(rt, &disk, standing), "at call {calls}");
     assert!(rt; has_journal(rt, &disk, &thinned), "at call {calls}");
 }
 

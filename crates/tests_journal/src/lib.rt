@@ -1,9 +1,11 @@
 //! Tests of records and entries, of group commit over a log whose calls fail, of a log whose file is replaced, of
-//! restarts and of compaction: journals whose outcome is worked out by hand, and a disk that fails at each of its
-//! calls. They use public items alone, and are a crate of their own, so that proving them doesn't prove the tested
-//! crates again.
+//! restarts, of compaction and of archived journals: journals whose outcome is worked out by hand, and a disk that fails
+//! at each of its calls. They use public items alone, and are a crate of their own, so that proving them doesn't prove
+//! the tested crates again.
 #![tactic(auto)]
 
+#[cfg(test)]
+mod archive;
 #[cfg(test)]
 mod commits;
 #[cfg(test)]

@@ -2,22 +2,27 @@
 
 /// The text.
 pub const AUTHOR_JS: &str =
-    r#"// The author's part: drafts, a place that is drawn or pasted, a policy by a form or as a document, publishing and withdrawing.
+    r##"// The author's part: drafts, a place that is drawn or pasted, a policy by a form or as a document, publishing and withdrawing.
 
-import { $, el, link, memory, question, say } from "./dom.js";
-import { boxOf, inSquare, polygonsOf } from "./geometry.js";
+import { showForesight } from "./cards.js";
+import { $, boxes, el, fold, keepPlace, link, memory, offerBoxes, question, say, tick, ticked } from "./dom.js";
+import { boxOf, inSquare, inWhole, isCrossing, polygonsOf } from "./geometry.js";
 import * as map from "./map.js";
-import { DAYS, isSame } from "./rules.js";
+import { DAYS, EVENTS, PROPULSIONS, STATES, TYPES, isSame, plain, warnings, words } from "./rules.js";
 import { ask, askIfThere } from "./server.js";
-import { operatorIds, operatorName, rememberWithdrawal, state } from "./state.js";
+import { operatorIds, operatorName, oversight, rememberWithdrawal, state } from "./state.js";
 
 const policyForm = $("policyform"), placeForm = $("placeform");
 const P = policyForm.elements, G = placeForm.elements;
 const KINDS = { policies: "policy", geographies: "place" };
 const LISTED = { policy: "policies", geography: "geographies" }; // the server's list of drafts names the kinds so
 
-// The document that the open form begins with.
-let base = null;
+const MOST_MISTAKES = 10, FORESEEN_AFTER = 300;
+// Groups of check boxes with the words of MDS that they are for; a field beside each takes others.
+const WORDS = { types: TYPES, propulsions: PROPULSIONS, states: STATES };
+
+// The document that the open form begins with, and the events that each state is bound to, by the form.
+let base = null, afterEvents = new Map();
 // What is done after each request that changed something, and with each fault.
 let refresh = async () => {}, fail = () => {};
 
@@ -63,11 +68,12 @@ export async function readDrafts() {
   const listed = () => draftsOf(told.drafts.map(({ kind, id }) => [LISTED[kind], id]));
   const named = (one, other) => String(one.document.name).localeCompare(String(other.document.name));
   const drafts = (await (told ? listed() : rememberedDrafts())).sort(named);
-  const left = new Set(state.drafts.filter((it) => !it.isChosen).map((it) => it.id));
-  state.drafts = drafts.map((it) => ({ ...it, isChosen: !left.has(it.id) }));
+  const chosen = new Set(state.drafts.filter((it) => it.isChosen).map((it) => it.id));
+  state.drafts = drafts.map((it) => ({ ...it, isChosen: chosen.has(it.id) }));
   state.draftPlaces = drafts.filter((it) => it.kind === "geographies").map((it) => asPlace(it.document));
   showDrafts();
   fillChoices();
+  foreseeSoon();
 }
 
 const remember = (kind, id) => memory.set("drafts", [...memory.get("drafts").filter(([, it]) => it !== id), [kind, id]]);
@@ -77,7 +83,7 @@ function draftRow(draft) {
   const { name } = draft.document, kind = KINDS[draft.kind];
   const box = el("input", { type: "checkbox", checked: draft.isChosen, onchange: () => { draft.isChosen = box.checked; } });
   const edit = draft.kind === "policies" ? editPolicy : editPlace;
-  return el("tr", {},
+  return el("tr", { "data-key": `draft ${draft.id}` },
     el("td", {}, el("label", {}, box, ` ${name}`)),
     el("td", {}, kind),
     el("td", {}, link("Edit", () => edit(draft.document), { "aria-label": `Edit the draft ${name}` }), " ",
@@ -86,10 +92,13 @@ function draftRow(draft) {
 
 function showDrafts() {
   const note = state.areDraftsTold ? "No drafts." : "No drafts of this browser. This server has no list of drafts.";
-  const publishing = el("div", { className: "actions" },
+  const publishing = el("div", { className: "actions", "data-key": "publish" },
     el("button", { type: "button", className: "primary", id: "publish", onclick: () => publish().catch(fail) }, "Publish…"));
-  $("drafts").replaceChildren(...(state.drafts.length
-    ? [el("table", {}, el("tbody", {}, state.drafts.map(draftRow))), publishing] : [el("p", { className: "small" }, note)]));
+  const place = keepPlace($("panel"), "#drafts");
+  const sentence = el("p", { className: "small" }, state.drafts.length ? "Tick what is to be published." : note);
+  const table = () => el("table", {}, el("tbody", {}, state.drafts.map(draftRow)));
+  $("drafts").replaceChildren(sentence, ...(state.drafts.length ? [table(), publishing] : []));
+  place();
 }
 
 async function drop(draft) {
@@ -107,7 +116,7 @@ async function drop(draft) {
 
 async function publish() {
   const chosen = state.drafts.filter((it) => it.isChosen);
-  if (!chosen.length) return say("Choose a draft to publish.", true);
+  if (!chosen.length) return say("Tick a draft to publish.", true);
   const isSure = await question("Publish?",
     el("p", {}, "At once, for every operator it is meant for, and for good: "
       + "what is published can be replaced or withdrawn, not changed."),
@@ -138,33 +147,90 @@ export async function withdraw(policy) {
 
 // --- Forms --------------------------------------------------------------------------------------------------------------
 
-/** The choices of a list, those that were chosen chosen still. */
-function fill(select, pairs) {
-  const chosen = new Set(many(select));
-  select.replaceChildren(...pairs.map(([value, text]) => el("option", { value, selected: chosen.has(value) }, text)));
-}
+const listed = (field) => [...new Set(field.value.split(",").map((it) => it.trim()).filter(Boolean))];
 
-const many = (select) => [...select.selectedOptions].map((it) => it.value);
-const listed = (field) => field.value.split(",").map((it) => it.trim()).filter(Boolean);
+/** A list as it was before, where it has the same in it. */
+const asBefore = (list, old) =>
+  (Array.isArray(old) && old.length === list.length && list.every((it) => old.some((one) => isSame(one, it))) ? old : list);
 
-function choose(select, ids) {
-  for (const option of select.options) option.selected = (ids || []).some((id) => isSame(id, option.value));
-}
+/** Identifiers with those behind them that a document names and that aren't among them. */
+const withOthers = (ids, named) => [...ids, ...(named || []).filter((id) => !ids.some((it) => isSame(it, id)))];
 
 /** The operators that are known, and those that a policy names. */
 function knownOperators() {
-  const ids = [...operatorIds()];
-  for (const policy of [...state.policies, ...state.drafts.map((it) => it.document)]) {
-    for (const id of policy.provider_ids || []) if (!ids.some((it) => isSame(it, id))) ids.push(id);
-  }
-  return ids;
+  const policies = [...state.policies, ...state.drafts.map((it) => it.document), base].filter(Boolean);
+  return policies.reduce((ids, it) => withOthers(ids, it.provider_ids), operatorIds());
 }
 
-function fillChoices() {
-  fill(P.who, knownOperators().map((id) => [id, operatorName(id)]));
-  fill(P.where, [...state.places, ...state.draftPlaces].map((it) => [it.geography_id, it.name]));
-  fill(P.prev, state.policies.map((it) => [it.policy_id, it.name]));
+/** The places that are published or drafts, and those that the rule names: each with its name. */
+function knownPlaces() {
+  const places = [...state.places, ...state.draftPlaces].map((it) => [it.geography_id, it.name]);
+  const ids = places.map(([id]) => id), strange = withOthers(ids, base?.rules?.[0]?.geographies).slice(ids.length);
+  return [...places, ...strange.map((id) => [id, `a place that isn’t published (${String(id).slice(0, 8)})`])];
 }
+
+/** What can be ticked: operators, places and policies by name. */
+function fillChoices() {
+  offerBoxes($("forwhom"), "forwhom", knownOperators().map((id) => [id, operatorName(id)]), "No operator is known.");
+  offerBoxes($("where"), "where", knownPlaces(), "No place is published or a draft.");
+  offerBoxes($("prev"), "prev", state.policies.map((it) => [it.policy_id, it.name]), "No policy is published.");
+}
+
+/** Ticks those that a document names. */
+const tickNamed = (part, ids) => tick(part, (value) => (ids || []).some((id) => isSame(id, value)));
+
+// --- Words of MDS -------------------------------------------------------------------------------------------------------
+
+/** The words that are ticked in a group, and those beside it. */
+const wordsIn = (group) => [...new Set([...ticked($(group)), ...listed(P[`other${group}`])])];
+
+/** Ticks the words of MDS among these, and puts the others into the field beside the group. */
+function fillWords(group, list) {
+  tick($(group), (it) => list.includes(it));
+  P[`other${group}`].value = list.filter((it) => !WORDS[group].includes(it)).join(", ");
+}
+
+/** Check boxes for the events of a state, with a field for others. */
+function eventBoxes(name) {
+  const bound = afterEvents.get(name) || [], others = bound.filter((it) => !EVENTS.includes(it)).join(", ");
+  const field = el("input", { name: "otherevents", value: others, placeholder: "words with commas between" });
+  return el("div", {}, el("div", { className: "boxes", role: "group", "aria-label": `Events: ${plain(name)}` },
+    boxes("event", EVENTS.map((it) => [it, plain(it)]), (it) => bound.includes(it))),
+  el("label", { className: "others" }, "Others, by hand ", field));
+}
+
+/** For each state of the form a part in which its events are ticked, made anew where the states are others than before. */
+function showEvents(isAnew = false) {
+  const part = $("events"), names = wordsIn("states");
+  if (isAnew || part.dataset.said !== names.join()) {
+    const open = new Set([...part.children].filter((it) => !isAnew && it.open).map((it) => it.dataset.key));
+    const place = keepPlace($("panel"), "#events");
+    part.dataset.said = names.join();
+    part.replaceChildren(...names.map((it) => fold(`events ${it}`, open.has(`events ${it}`), "", () => eventBoxes(it))));
+    place();
+  }
+  for (const [index, name] of names.entries()) {
+    const bound = (afterEvents.get(name) || []).map(plain);
+    part.children[index].firstChild.textContent = `${plain(name)}: after ${bound.length ? words(bound) : "any event"}`;
+  }
+}
+
+/** Takes the events that are ticked in a state's part. */
+function takeEvents(part) {
+  const bound = [...ticked(part), ...listed(part.querySelector("[name=otherevents]"))];
+  afterEvents.set(wordsIn("states")[[...$("events").children].indexOf(part)], [...new Set(bound)]);
+}
+
+/** The states by the form, each with its events. */
+function statesByFields(old) {
+  const eventsIn = (it) => {
+    const bound = afterEvents.get(it) || [];
+    return !bound.length && old?.[it] === null ? null : asBefore(bound, old?.[it]);
+  };
+  return Object.fromEntries(wordsIn("states").map((it) => [it, eventsIn(it)]));
+}
+
+// --- Opening and closing ------------------------------------------------------------------------------------------------
 
 function closeForms() {
   base = null;
@@ -174,6 +240,15 @@ function closeForms() {
     form.reset();
   }
   $("byhand").hidden = true;
+  afterEvents = new Map();
+  showEvents(true);
+}
+
+/** Closes the forms without saving; the focus goes where one is opened. */
+function cancel(event) {
+  const opener = event.target.form === placeForm ? "draw" : "write";
+  closeForms();
+  $(opener).focus();
 }
 
 function openForm(form) {
@@ -182,12 +257,19 @@ function openForm(form) {
   form.scrollIntoView({ block: "nearest" });
 }
 
-/** After a draft is kept: the form goes, and the draft is shown. */
-async function kept(kind, id) {
+/** After a draft is saved: the form goes, and the draft is shown. */
+async function showSaved(kind, id) {
   remember(kind, id);
   closeForms();
+  $(kind === "policies" ? "write" : "draw").focus();
   await refresh();
   say("The draft is kept. Nobody but the city sees it until it is published.");
+}
+
+/** Whether a draft is to be saved in spite of what is likely a mistake. */
+async function isMeant(mistakes) {
+  const list = el("ul", {}, mistakes.slice(0, MOST_MISTAKES).map((it) => el("li", {}, it)));
+  return !mistakes.length || question("Save it all the same?", el("p", {}, "This is likely a mistake:"), list);
 }
 
 /** Says what is wrong with a document that isn't even JSON. */
@@ -202,12 +284,15 @@ function put(rule, name, value, isThere) {
 }
 
 /** The first rule by the form, what the form has no field for as it was. */
-function writtenRule() {
-  const [old] = base.rules, isTime = P.kind.value === "time";
-  const rule = { ...old, name: P.rule.value || P.name.value, rule_type: P.kind.value, geographies: many(P.where) };
-  const days = [...P.day].filter((it) => it.checked).map((it) => it.value), types = listed(P.types), states = listed(P.states);
-  put(rule, "states", Object.fromEntries(states.map((it) => [it, old.states?.[it] || []])), states.length);
+function ruleByFields() {
+  const [old] = base.rules, isTime = P.kind.value === "time", where = asBefore(ticked($("where")), old.geographies);
+  const rule = { ...old, name: P.rule.value || P.name.value, rule_type: P.kind.value, geographies: where };
+  const days = asBefore(ticked($("days")), old.days), states = statesByFields(old.states);
+  const types = asBefore(wordsIn("types"), old.vehicle_types);
+  const propulsions = asBefore(wordsIn("propulsions"), old.propulsion_types);
+  put(rule, "states", states, Object.keys(states).length);
   put(rule, "vehicle_types", types, types.length);
+  put(rule, "propulsion_types", propulsions, propulsions.length);
   put(rule, "days", days, days.length);
   put(rule, "minimum", Number(P.minimum.value), P.minimum.value !== "");
   put(rule, "maximum", Number(P.maximum.value), P.maximum.value !== "");
@@ -223,11 +308,13 @@ function momentOf(field, old) {
 }
 
 /** The policy by the form. */
-function written() {
+function policyByFields() {
   return {
     ...base, name: P.name.value, description: P.description.value,
     start_date: momentOf(P.start, base.start_date), end_date: momentOf(P.end, base.end_date),
-    provider_ids: many(P.who), prev_policies: many(P.prev), rules: [writtenRule(), ...base.rules.slice(1)],
+    provider_ids: asBefore(ticked($("forwhom")), base.provider_ids),
+    prev_policies: asBefore(ticked($("prev")), base.prev_policies),
+    rules: [ruleByFields(), ...base.rules.slice(1)],
   };
 }
 
@@ -235,7 +322,29 @@ const isByHand = () => !$("byhand").hidden;
 
 function showDocument() {
   P.unit.parentNode.hidden = P.kind.value !== "time";
-  if (!isByHand()) P.json.value = JSON.stringify(written(), null, 2);
+  showEvents();
+  if (!isByHand()) P.json.value = JSON.stringify(policyByFields(), null, 2);
+  foreseeSoon();
+}
+
+let foreseeing = 0;
+
+/** Shows how operators would stand by the policy of the open form, once nothing has been typed for a moment. */
+export function foreseeSoon() {
+  clearTimeout(foreseeing);
+  if (!policyForm.hidden) foreseeing = setTimeout(foresee, FORESEEN_AFTER);
+}
+
+function foresee() {
+  $("foresight").hidden = oversight() !== "vehicles";
+  if (policyForm.hidden || $("foresight").hidden) return;
+  let policy = null;
+  try {
+    policy = isByHand() ? JSON.parse(P.json.value) : policyByFields();
+  } catch {
+    // What is no JSON is told by the note.
+  }
+  showForesight(policy);
 }
 
 /** Puts a policy into the fields. */
@@ -245,25 +354,29 @@ function fillPolicy(policy) {
   P.description.value = policy.description || "";
   P.start.value = clock.toField(policy.start_date);
   P.end.value = policy.end_date != null ? clock.toField(policy.end_date) : "";
-  choose(P.who, policy.provider_ids);
-  choose(P.where, rule.geographies);
-  choose(P.prev, policy.prev_policies);
+  tickNamed($("forwhom"), policy.provider_ids);
+  tickNamed($("where"), rule.geographies);
+  tickNamed($("prev"), policy.prev_policies);
   P.rule.value = rule.name === policy.name ? "" : rule.name || "";
   P.kind.value = rule.rule_type === "time" ? "time" : "count";
-  P.types.value = (rule.vehicle_types || []).join(", ");
-  P.states.value = Object.keys(rule.states || {}).join(", ");
+  afterEvents = new Map(Object.entries(rule.states || {}).map(([name, events]) => [name, events || []]));
+  fillWords("types", rule.vehicle_types || []);
+  fillWords("propulsions", rule.propulsion_types || []);
+  fillWords("states", [...afterEvents.keys()]);
+  showEvents(true);
   P.minimum.value = rule.minimum ?? "";
   P.maximum.value = rule.maximum ?? "";
   P.unit.value = rule.rule_units || "hours";
   P.open.value = rule.start_time || "";
   P.close.value = rule.end_time || "";
-  for (const day of P.day) day.checked = rule.days?.includes(day.value) || false;
+  tick($("days"), (day) => rule.days?.includes(day));
 }
 
 /** Opens the form with a policy. One whose first rule the fields can't hold is edited as a document. */
 function editPolicy(policy) {
   openForm(policyForm);
   base = policy;
+  fillChoices();
   const type = policy.rules[0]?.rule_type;
   if (type === "count" || type === "time") {
     fillPolicy(policy);
@@ -272,6 +385,7 @@ function editPolicy(policy) {
     P.name.value = policy.name;
     P.start.value = state.clock.toField(policy.start_date);
     takeByHand(JSON.stringify(policy, null, 2));
+    foreseeSoon();
   }
   P.name.focus();
 }
@@ -300,11 +414,13 @@ function takeByHand(text) {
 async function savePolicy(event) {
   event.preventDefault();
   try {
-    const text = isByHand() ? P.json.value : JSON.stringify(written()), document = JSON.parse(text);
+    const text = isByHand() ? P.json.value : JSON.stringify(policyByFields()), document = JSON.parse(text);
     if (!document?.policy_id) throw new Error("The document has no policy_id.");
-    if (!isByHand() && !many(P.where).length) throw new Error("Choose where it holds: a rule without a place catches nothing.");
+    const isNowhere = !isByHand() && !ticked($("where")).length;
+    if (isNowhere) throw new Error("Choose where it holds: a rule without a place catches nothing.");
+    if (!await isMeant(warnings(document, state.fleet?.kinds || []))) return;
     await ask("PUT", `drafts/policies/${document.policy_id}`, text);
-    await kept("policies", document.policy_id);
+    await showSaved("policies", document.policy_id);
   } catch (fault) {
     fail(faultOf(fault, "The document"));
   }
@@ -371,15 +487,34 @@ function geoJsonOf(text) {
   return JSON.stringify({ type: "Polygon", coordinates: [[...corners, corners[0]]] });
 }
 
+/** The polygons of GeoJSON: of one or several polygons, or of features of these; none where it is something else. */
+function polygonsIn(it) {
+  if (it?.type === "FeatureCollection") return (it.features || []).flatMap(polygonsIn);
+  if (it?.type === "Feature") return polygonsIn(it.geometry);
+  return it?.type === "Polygon" ? [it.coordinates] : it?.type === "MultiPolygon" ? it.coordinates : [];
+}
+
+/** What is likely a mistake in a place: an outline that crosses itself. What is no outline at all is the server's to refuse. */
+function placeWarnings(text) {
+  try {
+    const crossing = inWhole(polygonsIn(JSON.parse(text))).flat().filter(isCrossing).length;
+    if (!crossing) return [];
+    return [crossing === 1 ? "An outline crosses or touches itself." : `${crossing} outlines cross or touch themselves.`];
+  } catch {
+    return [];
+  }
+}
+
 async function savePlace(event) {
   event.preventDefault();
   try {
     const id = base.geography_id, head = { geography_id: id, name: G.name.value };
     if (G.description.value) head.description = G.description.value;
     // The coordinates go on as they were written.
-    const text = `${JSON.stringify(head).slice(0, -1)},"geography_json":${geoJsonOf(G.geojson.value)}}`;
+    const shape = geoJsonOf(G.geojson.value), text = `${JSON.stringify(head).slice(0, -1)},"geography_json":${shape}}`;
+    if (!await isMeant(placeWarnings(shape))) return;
     await ask("PUT", `drafts/geographies/${id}`, text);
-    await kept("geographies", id);
+    await showSaved("geographies", id);
   } catch (fault) {
     fail(faultOf(fault, "The place"));
   }
@@ -395,18 +530,20 @@ export function show(isShown) {
 /** Binds the buttons and forms. */
 export function start(after, onFault) {
   [refresh, fail] = [after, onFault];
-  const box = (day) => el("label", {}, el("input", { type: "checkbox", name: "day", value: day }), day);
-  $("days").append(...DAYS.map(box));
+  $("days").append(...boxes("day", DAYS.map((it) => [it, it])));
+  for (const [group, list] of Object.entries(WORDS)) $(group).append(...boxes(group, list.map((it) => [it, plain(it)])));
   $("write").onclick = newPolicy;
   $("draw").onclick = newPlace;
   $("undo").onclick = () => map.dropCorner();
-  for (const button of document.querySelectorAll("button.cancel")) button.onclick = closeForms;
+  for (const button of document.querySelectorAll("button.cancel")) button.onclick = cancel;
   policyForm.onsubmit = savePolicy;
   policyForm.oninput = (event) => {
     if (event.target === P.json) $("byhand").hidden = false;
+    const part = event.target.closest("#events details");
+    if (part) takeEvents(part);
     showDocument();
   };
   placeForm.onsubmit = savePlace;
   G.geojson.oninput = typeCorners;
 }
-"#;
+"##;

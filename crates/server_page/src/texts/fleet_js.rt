@@ -2,8 +2,8 @@
 
 /// The text.
 pub const FLEET_JS: &str =
-    r#"// A worker that reads an operator's fleet of any size without stopping the page, into columns in the order of device
-// identifiers, and tells which vehicles stand in which place.
+    r#"// A worker that reads fleets of any size without stopping the page, one after another, into columns: fleet behind fleet, each
+// in the order of device identifiers. It tells which vehicles stand in which place.
 
 import { E7, mercator, within } from "./geometry.js";
 
@@ -16,12 +16,14 @@ for (let digit = 0; digit < 16; digit++) DIGITS[digit.toString(16).charCodeAt(0)
 const columns = (size) => ({
   x: new Float64Array(size), y: new Float64Array(size), lng: new Int32Array(size), lat: new Int32Array(size),
   since: new Float64Array(size), stamp: new Float64Array(size), kind: new Uint32Array(size), id: new Uint8Array(size * 16),
+  owner: new Uint8Array(size),
 });
 
 /** Rows as they come. Vehicles that share type, state, propulsion types and events share a kind. */
 class Rows {
   constructor() {
     this.count = 0;
+    this.owner = 0;
     this.size = FIRST;
     this.columns = columns(FIRST);
     this.kinds = [];
@@ -48,6 +50,7 @@ class Rows {
   add(vehicle) {
     if (this.count === this.size) this.grow();
     const row = this.count++, to = this.columns, { lng, lat } = vehicle.location;
+    to.owner[row] = this.owner;
     to.kind[row] = this.kindOf(vehicle);
     to.since[row] = vehicle.since;
     to.stamp[row] = vehicle.timestamp;
@@ -101,24 +104,41 @@ class Reading {
   }
 }
 
-async function read({ header, places }) {
-  const answer = await fetch("fleet/vehicles", { headers: header, cache: "no-store" });
-  if (!answer.ok) {
-    const told = await answer.json().catch(() => ({}));
-    return postMessage({ fault: { status: answer.status, code: told.error || "" } });
+/** Reads the fleet at a target behind those that were read; answers what was wrong, null where nothing was. */
+async function readBehind(rows, target, headers) {
+  const first = rows.count;
+  try {
+    const answer = await fetch(target, { headers, cache: "no-store" });
+    if (!answer.ok) return { status: answer.status, code: (await answer.json().catch(() => ({}))).error || "" };
+    const reading = new Reading(rows), decoder = new TextDecoder(), body = answer.body.getReader();
+    for (let told = rows.count;;) {
+      const { value, done } = await body.read();
+      if (done) break;
+      reading.take(decoder.decode(value, { stream: true }));
+      if (rows.count - told >= TOLD_EACH) postMessage({ progress: told = rows.count });
+    }
+    reading.end();
+    return null;
+  } catch {
+    rows.count = first;
+    return { status: 0, code: "unreachable" };
   }
-  const rows = new Rows(), reading = new Reading(rows), decoder = new TextDecoder(), body = answer.body.getReader();
-  let told = 0;
-  for (;;) {
-    const { value, done } = await body.read();
-    if (done) break;
-    reading.take(decoder.decode(value, { stream: true }));
-    if (rows.count - told >= TOLD_EACH) postMessage({ progress: told = rows.count });
+}
+
+/** Reads the fleets at the targets. What couldn't be read of several is left out, and named by its place. */
+async function read({ header, places, targets }) {
+  const rows = new Rows(), starts = [], faults = [];
+  for (const [owner, target] of targets.entries()) {
+    starts.push(rows.count);
+    rows.owner = owner;
+    faults.push(await readBehind(rows, target, header));
   }
-  reading.end();
+  if (faults.length && faults.every(Boolean)) return postMessage({ fault: faults[0] });
+  starts.push(rows.count);
   const inside = places.map((polygons) => within(polygons, rows.columns, rows.count)), filled = rows.filled();
-  const fleet = { count: rows.count, kinds: rows.kinds, inside, ...filled };
-  postMessage({ fleet }, [...Object.values(filled), ...inside].map((it) => it.buffer));
+  const missing = [...faults.keys()].filter((owner) => faults[owner]);
+  const fleet = { count: rows.count, kinds: rows.kinds, starts, missing, inside, ...filled };
+  return postMessage({ fleet }, [...Object.values(filled), ...inside].map((it) => it.buffer));
 }
 
 onmessage = ({ data }) => {

@@ -25,20 +25,40 @@ pub const INDEX_HTML: &str = r##"<!doctype html>
 <p id="say" role="status" aria-live="polite"></p>
 <noscript><p class="sheet">This page needs JavaScript. The policies themselves are at <code>/policies</code>.</p></noscript>
 
-<main id="enter">
+<main>
+<section id="enter" aria-labelledby="entertitle">
   <form id="sign" class="sheet">
-    <h2>Sign in</h2>
-    <p>Paste the access token that your city gave you. An operator sees the policies that are meant for it, its own
-      vehicles, and whether the rules hold for them. The city sees all policies, and drafts and publishes them.</p>
+    <h2 id="entertitle">Sign in</h2>
+    <p class="why">Paste the access token that your city gave you. An operator sees the policies that are meant for it, its own
+      vehicles, whether the rules hold for them, and what the city sees of that. The city sees all policies, drafts and
+      publishes them, and sees how operators stand as far as its configuration says.</p>
     <label for="token">Access token</label>
     <input id="token" name="token" type="password" autocomplete="off" spellcheck="false" required maxlength="64"
       pattern="[A-Za-z0-9_\-]{1,64}" title="1 to 64 letters, digits, - or _">
     <button class="primary">Sign in</button>
     <p class="small">It is kept in this tab only, until the tab is closed, and is sent to this server only.</p>
   </form>
-</main>
+</section>
 
-<main id="work" hidden>
+<div id="work" hidden>
+  <section id="standing" tabindex="-1" aria-labelledby="standingtitle" hidden>
+    <h2 id="standingtitle">How operators stand</h2>
+    <p id="standingnote"></p>
+    <div id="standingview" hidden>
+      <div class="choices">
+        <label>Operator <select id="byoperator"></select></label>
+        <label>Policy <select id="bypolicy"></select></label>
+        <label>Order <select id="order">
+          <option value="broken">broken first</option>
+          <option value="operator">by operator</option>
+          <option value="policy">by policy</option>
+        </select></label>
+        <label class="check"><input type="checkbox" id="brokenalone"> Only broken rules</label>
+        <button type="button" id="csv">Download as CSV</button>
+      </div>
+      <div id="standingtable"></div>
+    </div>
+  </section>
   <section id="mapside" aria-label="Map">
     <div id="mapbox">
       <canvas id="map" tabindex="0" role="application" aria-roledescription="map"
@@ -93,14 +113,13 @@ pub const INDEX_HTML: &str = r##"<!doctype html>
           <label>From <input name="start" type="datetime-local" required></label>
           <label>Until (may be open) <input name="end" type="datetime-local"></label>
         </div>
-        <label>For whom (none chosen: every operator) <select name="who" multiple size="3"></select></label>
-        <label>Where <select name="where" multiple size="4"></select></label>
+        <fieldset><legend>For whom (none ticked: every operator)</legend><div id="forwhom" class="boxes"></div></fieldset>
+        <fieldset><legend>Where (tick one at least)</legend><div id="where" class="boxes"></div></fieldset>
         <div class="two">
           <label>What is judged <select name="kind">
             <option value="count">how many vehicles</option>
             <option value="time">how long they stand</option>
           </select></label>
-          <label>Vehicle types <input name="types" placeholder="all, or scooter_standing, bicycle"></label>
           <label>Name of the rule <input name="rule" placeholder="the policy's name"></label>
         </div>
         <div class="two">
@@ -110,18 +129,31 @@ pub const INDEX_HTML: &str = r##"<!doctype html>
             <option>hours</option><option>minutes</option><option>days</option><option>seconds</option>
           </select></label>
         </div>
-        <label>States (none: all) <input name="states" value="available, reserved, non_operational"></label>
+        <fieldset><legend>Vehicle types (none: all)</legend><div id="types" class="boxes"></div>
+          <label class="others">Others, by hand <input name="othertypes" placeholder="words with commas between"></label>
+        </fieldset>
+        <fieldset><legend>Propulsion (none: any)</legend><div id="propulsions" class="boxes"></div>
+          <label class="others">Others, by hand <input name="otherpropulsions" placeholder="words with commas between"></label>
+        </fieldset>
+        <fieldset><legend>States (none: all)</legend><div id="states" class="boxes"></div>
+          <label class="others">Others, by hand <input name="otherstates" placeholder="words with commas between"></label>
+          <div id="events"></div></fieldset>
         <div class="two">
           <label>Daily from <input name="open" type="time" step="1"></label>
           <label>to <input name="close" type="time" step="1"></label>
         </div>
-        <fieldset id="days"><legend>Days (none: all)</legend></fieldset>
-        <label>Takes the place of (may be none) <select name="prev" multiple size="2"></select></label>
+        <fieldset><legend>Days (none: all)</legend><div id="days" class="boxes"></div></fieldset>
+        <fieldset><legend>Takes the place of (may be none)</legend><div id="prev" class="boxes"></div></fieldset>
         <details>
           <summary>The document: edit it for more than one rule</summary>
           <textarea name="json" rows="12" spellcheck="false" aria-label="The policy as JSON"></textarea>
           <p class="small" id="byhand" hidden>It was edited by hand: the fields above no longer change it.</p>
         </details>
+        <section id="foresight" aria-labelledby="foresighttitle" hidden>
+          <h4 id="foresighttitle">How operators would stand by it now</h4>
+          <p class="small" id="foresightnote"></p>
+          <div id="foresighttable"></div>
+        </section>
         <div class="actions">
           <button class="primary">Save draft</button>
           <button type="button" class="cancel">Cancel</button>
@@ -132,6 +164,7 @@ pub const INDEX_HTML: &str = r##"<!doctype html>
     <div id="policies"></div>
     <div id="places"></div>
   </section>
+</div>
 </main>
 <dialog id="ask" aria-labelledby="asktitle">
   <form method="dialog">

@@ -2,18 +2,53 @@
 
 /// The text.
 pub const LAYERS_JS: &str =
-    r#"// What the map draws, on a canvas: tiles or a grid, places, vehicles, a scale. All of it goes by a view, which has the middle of
+    r##"// What the map draws, on a canvas: tiles or a grid, places, vehicles, a scale. All of it goes by a view, which has the middle of
 // the map in the square of Web Mercator (`x`, `y`) and the pixels that are as wide as the world (`scale`).
 
 import { mercator, unmercator } from "./geometry.js";
 import { digitsOf } from "./rules.js";
-import { state } from "./state.js";
+import { isAuthor, shownFleet, state } from "./state.js";
 
 const MANY = 4_000, VERY_MANY = 60_000, TILES_KEPT = 400, DOT = 4, EQUATOR = 40_075_017;
 const FONT = "system-ui, sans-serif";
 
 export const KINDS = ["available", "on_trip", "reserved", "non_operational", "other"];
 export const colourOf = (kind) => (KINDS.includes(kind.state) ? kind.state : "other");
+
+// The operators' colours, by Okabe and Ito: apart for colour-blind people too. The 64 operators that a city may have are told
+// apart by colour and shape together, the first eight by either.
+const COLOURS = ["#0072b2", "#e69f00", "#009e73", "#cc79a7", "#56b4e9", "#d55e00", "#f0e442", "#7f7f7f"];
+const CROSS = [[-0.35, -1.1], [0.35, -1.1], [0.35, -0.35], [1.1, -0.35], [1.1, 0.35], [0.35, 0.35], [0.35, 1.1], [-0.35, 1.1],
+  [-0.35, 0.35], [-1.1, 0.35], [-1.1, -0.35], [-0.35, -0.35]];
+const SHAPES = [
+  disc,
+  (ctx, r) => ctx.rect(-0.85 * r, -0.85 * r, 1.7 * r, 1.7 * r),
+  (ctx, r) => corners(ctx, r, [[0, -1.1], [1, 0.8], [-1, 0.8]]),
+  (ctx, r) => corners(ctx, r, [[0, -1.2], [1, 0], [0, 1.2], [-1, 0]]),
+  (ctx, r) => corners(ctx, r, [[0, 1.1], [1, -0.8], [-1, -0.8]]),
+  (ctx, r) => corners(ctx, r, CROSS),
+  (ctx, r) => corners(ctx, r, Array.from({ length: 10 }, (_, n) => turned([0, n % 2 ? -0.5 : -1.25], n / 10))),
+  (ctx, r) => corners(ctx, r, CROSS.map((it) => turned(it, 1 / 8))),
+];
+
+const colourOfOwner = (owner) => COLOURS[owner % COLOURS.length];
+const shapeOfOwner = (owner) => SHAPES[(owner + Math.floor(owner / COLOURS.length)) % SHAPES.length];
+
+function disc(ctx, radius) {
+  ctx.moveTo(radius, 0);
+  ctx.arc(0, 0, radius, 0, 7);
+}
+
+/** A point turned by a part of a circle. */
+function turned([x, y], part) {
+  const [sin, cos] = [Math.sin(2 * Math.PI * part), Math.cos(2 * Math.PI * part)];
+  return [x * cos - y * sin, x * sin + y * cos];
+}
+
+function corners(ctx, radius, list) {
+  list.forEach(([x, y], index) => (index ? ctx.lineTo(x * radius, y * radius) : ctx.moveTo(x * radius, y * radius)));
+  ctx.closePath();
+}
 
 let colours = {};
 const layer = document.createElement("canvas"), tiles = new Map();
@@ -155,6 +190,30 @@ export function drawOutline(ctx, view, corners) {
 
 // --- Vehicles -----------------------------------------------------------------------------------------------------------
 
+/** An operator's mark: its colour and shape, with a rim. */
+export function drawMark(ctx, owner, px, py, radius) {
+  ctx.save();
+  ctx.translate(px, py);
+  ctx.beginPath();
+  shapeOfOwner(owner)(ctx, radius);
+  ctx.fillStyle = colourOfOwner(owner);
+  ctx.strokeStyle = colours.ink;
+  ctx.lineWidth = 1.5;
+  ctx.fill();
+  ctx.stroke();
+  ctx.restore();
+}
+
+/** The colours and shapes of vehicles, and which of them a row of a fleet has: by its state, for the author by its operator. */
+function paintOf(fleet) {
+  if (isAuthor()) {
+    const owners = [...Array(fleet.starts.length - 1).keys()];
+    return { palette: owners.map(colourOfOwner), shapes: owners.map(shapeOfOwner), of: (row) => fleet.owner[row] };
+  }
+  const numbers = fleet.kinds.map((kind) => KINDS.indexOf(colourOf(kind)));
+  return { palette: KINDS.map((it) => colours[it]), shapes: KINDS.map(() => disc), of: (row) => numbers[fleet.kind[row]] };
+}
+
 /** How many vehicles are in sight, by every eighth where there are many. */
 function inSight(view, fleet) {
   if (fleet.count <= MANY) return fleet.count;
@@ -182,59 +241,70 @@ function drawSquares(ctx, view, fleet, side) {
   }
   const pixels = new Uint32Array(image.data.buffer), size = Math.max(2, Math.round(side * ratio));
   const scale = view.scale * ratio, left = width / 2 - view.x * scale, top = height / 2 - view.y * scale;
-  const bright = fleet.kinds.map((kind) => pixelOf(colours[colourOf(kind)]));
+  const paint = paintOf(fleet), bright = paint.palette.map(pixelOf);
   const faint = bright.map((it) => ((it & 0xffffff) | (0x30 << 24)) >>> 0);
   pixels.fill(0);
   for (let row = 0; row < fleet.count; row++) {
     const x = Math.floor(fleet.x[row] * scale + left), y = Math.floor(fleet.y[row] * scale + top);
     if (x < 0 || y < 0 || x >= width - size || y >= height - size) continue;
-    const pixel = (state.caught && !state.caught[row] ? faint : bright)[fleet.kind[row]];
+    const pixel = (state.caught && !state.caught[row] ? faint : bright)[paint.of(row)];
     for (let j = 0, at = y * width + x; j < size; j++, at += width) for (let i = 0; i < size; i++) pixels[at + i] = pixel;
   }
   layer.getContext("2d").putImageData(image, 0, 0);
   ctx.drawImage(layer, 0, 0, view.width, view.height);
 }
 
-/** Few vehicles: dots, those that the shown rule doesn't catch faint and below the others. */
+/** Few vehicles: dots, or their operator's shape; those that the shown rule doesn't catch faint and below the others. */
 function drawDots(ctx, view, fleet, isFaint) {
-  for (const colour of KINDS) {
-    ctx.globalAlpha = isFaint ? 0.2 : 1;
-    ctx.fillStyle = colours[colour];
-    ctx.strokeStyle = colours.halo;
-    ctx.lineWidth = 2;
+  const paint = paintOf(fleet), points = paint.palette.map(() => []);
+  for (let row = 0; row < fleet.count; row++) {
+    const isLeftOut = state.caught !== null && !state.caught[row];
+    if (isLeftOut !== isFaint) continue;
+    const [px, py] = toPixel(view, fleet.x[row], fleet.y[row]);
+    if (px >= -DOT && py >= -DOT && px <= view.width + DOT && py <= view.height + DOT) points[paint.of(row)].push([px, py]);
+  }
+  ctx.globalAlpha = isFaint ? 0.2 : 1;
+  ctx.strokeStyle = colours.halo;
+  ctx.lineWidth = 2;
+  for (const [number, list] of points.entries()) {
+    ctx.fillStyle = paint.palette[number];
     ctx.beginPath();
-    for (let row = 0; row < fleet.count; row++) {
-      const isLeftOut = state.caught !== null && !state.caught[row];
-      if (colourOf(fleet.kinds[fleet.kind[row]]) !== colour || isLeftOut !== isFaint) continue;
-      const [px, py] = toPixel(view, fleet.x[row], fleet.y[row]);
-      if (px < -DOT || py < -DOT || px > view.width + DOT || py > view.height + DOT) continue;
-      ctx.moveTo(px + DOT, py);
-      ctx.arc(px, py, DOT, 0, 7);
+    for (const [px, py] of list) {
+      ctx.translate(px, py);
+      paint.shapes[number](ctx, DOT);
+      ctx.translate(-px, -py);
     }
     // The rim lies below, so that dots which are close don't hide one another.
     ctx.stroke();
     ctx.fill();
-    ctx.globalAlpha = 1;
   }
+  ctx.globalAlpha = 1;
 }
 
-/** The vehicles, rings around those that break a rule, and a frame around the one that is told of. */
-export function drawVehicles(ctx, view, picked) {
-  const fleet = state.fleet;
-  if (!fleet) return;
-  const seen = inSight(view, fleet);
-  if (seen > MANY) drawSquares(ctx, view, fleet, seen > VERY_MANY ? 1.5 : 3);
-  else for (const isFaint of state.caught ? [true, false] : [false]) drawDots(ctx, view, fleet, isFaint);
-  const radius = state.offenders.size > 120 && seen > 1500 ? 4 : 8;
+/** Rings around those that break a rule, in it for the author their operator's mark. */
+function drawOffenders(ctx, view, fleet, radius) {
+  const points = Array.from(state.offenders, (row) => [row, ...toPixel(view, fleet.x[row], fleet.y[row])]);
+  const isSeen = ([, px, py]) => px > -radius && py > -radius && px < view.width + radius && py < view.height + radius;
+  const marked = isAuthor() ? points.filter(isSeen) : [];
+  for (const [row, px, py] of marked) drawMark(ctx, fleet.owner[row], px, py, radius * 0.55);
   ctx.strokeStyle = colours.offender;
   ctx.lineWidth = radius / 4 + 0.6;
   ctx.beginPath();
-  for (const row of state.offenders) {
-    const [px, py] = toPixel(view, fleet.x[row], fleet.y[row]);
+  for (const [, px, py] of points) {
     ctx.moveTo(px + radius, py);
     ctx.arc(px, py, radius, 0, 7);
   }
   ctx.stroke();
+}
+
+/** The vehicles, those that break a rule ringed, and a frame around the one that is told of. */
+export function drawVehicles(ctx, view, picked) {
+  const fleet = shownFleet();
+  if (!fleet) return;
+  const seen = inSight(view, fleet);
+  if (seen > MANY) drawSquares(ctx, view, fleet, seen > VERY_MANY ? 1.5 : 3);
+  else for (const isFaint of state.caught ? [true, false] : [false]) drawDots(ctx, view, fleet, isFaint);
+  drawOffenders(ctx, view, fleet, state.offenders.size > 120 && seen > 1500 ? 4 : 8);
   if (picked === null) return;
   const [px, py] = toPixel(view, fleet.x[picked], fleet.y[picked]);
   ctx.strokeStyle = colours.ink;
@@ -260,4 +330,4 @@ export function drawLand(ctx, view) {
   ctx.fillStyle = colours.land;
   ctx.fillRect(0, 0, view.width, view.height);
 }
-"#;
+"##;

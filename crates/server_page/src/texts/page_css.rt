@@ -72,13 +72,44 @@ button[aria-pressed=true] { outline: 2px solid var(--accent); }
 fieldset {
   border: 1px solid var(--line); border-radius: 6px; display: flex; gap: .7rem; flex-wrap: wrap; font-size: .9rem; min-width: 0;
 }
-.sheet fieldset label { display: flex; gap: .3rem; }
+.sheet fieldset label { display: flex; gap: .35rem; align-items: baseline; min-width: 0; overflow-wrap: anywhere; }
+.boxes { display: flex; flex-wrap: wrap; gap: .25rem .9rem; flex: 1 1 100%; max-height: 11rem; overflow-y: auto; padding: .3rem; }
+.boxes input { flex: none; }
+.sheet .others { flex: 1 1 100%; flex-wrap: wrap; margin: .2rem 0 .4rem; }
+.others input { flex: 1 1 10rem; min-width: 0; }
+#events { flex: 1 1 100%; min-width: 0; }
+#events summary, #foresight summary { cursor: pointer; overflow-wrap: anywhere; }
+#foresight h4 { margin: 0 0 .2rem; font-size: .95rem; }
+#foresight p { margin: .25rem 0; }
 textarea { font: 13px/1.4 ui-monospace, monospace; width: 100%; }
 
 /* Signing in; the map beside the policies */
 #enter { margin: 8vh auto; width: min(30rem, 94vw); }
 #enter h2 { margin: 0; }
+main { flex: 1; min-height: 0; display: flex; flex-direction: column; }
+.strip h2 { position: absolute; width: 1px; height: 1px; overflow: hidden; clip-path: inset(50%); }
+.strip .why, .strip .small { display: none; }
+#enter.strip { margin: 0; width: auto; }
+.strip .sheet {
+  display: flex; flex-wrap: wrap; align-items: center; gap: .3rem .6rem; padding: .4rem 1rem;
+  border-radius: 0; border-width: 0 0 1px;
+}
+.strip .sheet input { flex: 1 1 9rem; min-width: 0; max-width: 22rem; }
 #work { flex: 1; min-height: 0; display: grid; grid-template-columns: minmax(0, 1fr) minmax(22rem, 30rem); }
+#work.overseen { grid-template-rows: auto minmax(0, 1fr); }
+#standing {
+  grid-column: 1; min-width: 0; max-height: 46vh; overflow-y: auto; padding: .5rem 1rem; border-bottom: 1px solid var(--line);
+}
+#standing:focus { outline: none; }
+#standing h2 { margin: 0; }
+#standing p { margin: .2rem 0; font-size: .9rem; }
+.overseen #mapside { grid-row: 2; }
+.overseen #panel { grid-area: 1 / 2 / 3; }
+.choices { display: flex; gap: .3rem .6rem; flex-wrap: wrap; align-items: end; margin: .3rem 0; font-size: .85rem; }
+.choices label { display: grid; flex: 1 1 7rem; max-width: 12rem; min-width: 0; }
+.choices select { padding: .15rem .3rem; min-height: 1.8rem; width: 100%; }
+.choices .check { display: flex; gap: .4rem; align-items: center; flex: none; min-height: 1.8rem; }
+.choices button { padding: .1rem .6rem; min-height: 1.8rem; }
 #mapside { display: flex; flex-direction: column; min-height: 0; min-width: 0; }
 #mapbox { position: relative; flex: 1; min-height: 0; overflow: hidden; }
 #map { position: absolute; inset: 0; width: 100%; height: 100%; touch-action: none; cursor: grab; background: var(--land); }
@@ -90,7 +121,9 @@ textarea { font: 13px/1.4 ui-monospace, monospace; width: 100%; }
   position: absolute; left: .6rem; bottom: .6rem; margin: 0; padding: .4rem .6rem; list-style: none; font-size: .8rem;
   background: var(--card); border: 1px solid var(--line); border-radius: 8px;
 }
+#legend { max-height: 45%; max-width: 60%; overflow-y: auto; overflow-wrap: anywhere; }
 #legend:empty { display: none; }
+#legend canvas { vertical-align: -.2rem; margin-right: .3rem; }
 #legend i { display: inline-block; width: .7rem; height: .7rem; border-radius: 50%; margin-right: .4rem; vertical-align: -.05rem; }
 #legend .available { background: var(--available); }
 #legend .on_trip { background: var(--on_trip); }
@@ -102,6 +135,9 @@ textarea { font: 13px/1.4 ui-monospace, monospace; width: 100%; }
   position: absolute; left: .6rem; top: .6rem; max-width: min(22rem, 70%); max-height: 80%; overflow: auto; font-size: .88rem;
   background: var(--card); border: 1px solid var(--line); border-radius: 8px; padding: .5rem .8rem; overflow-wrap: anywhere;
 }
+#picked time { display: block; margin: 0; white-space: nowrap; }
+#picked dl { gap: .1rem .5rem; }
+#picked .tag { margin-right: .6rem; }
 #attribution { position: absolute; right: .3rem; bottom: 0; margin: 0; font-size: .7rem; background: var(--card); }
 #time {
   display: flex; gap: .6rem; align-items: center; flex-wrap: wrap; padding: .5rem 1rem;
@@ -156,7 +192,20 @@ article summary { cursor: pointer; }
 pre { max-height: 16rem; overflow: auto; font: 12px/1.4 ui-monospace, monospace; margin: .3rem 0; }
 table { width: 100%; table-layout: fixed; border-collapse: collapse; font-size: .9rem; }
 td:first-child { width: 42%; }
-td { text-align: left; vertical-align: top; padding: .25rem .3rem; border-top: 1px solid var(--line); }
+td, th { text-align: left; vertical-align: top; padding: .25rem .3rem; border-top: 1px solid var(--line); }
+th { font-weight: 600; overflow-wrap: anywhere; }
+.standing th:first-child { width: 18%; }
+.standing th:nth-child(2) { width: 40%; }
+.standing th:nth-child(3) { width: 9rem; }
+.foresight { margin: .2rem 0 .5rem; table-layout: auto; }
+.foresight th, .foresight td { width: auto; overflow-wrap: break-word; }
+.foresight thead th { font-size: .8rem; color: var(--dim); border: 0; }
+.foresight .tag { padding: .05rem .4rem; white-space: nowrap; }
+.standing summary { cursor: pointer; }
+.standing .devices { list-style: none; padding: 0; max-height: 8rem; }
+.standing thead th { font-size: .8rem; color: var(--dim); border: 0; }
+.standing tr.bad th { border-left: 5px solid var(--bad); }
+.standing tbody th { border-left: 5px solid transparent; }
 dialog {
   background: var(--card); color: var(--ink); border: 1px solid var(--line); border-radius: 12px; max-width: min(30rem, 94vw);
 }
@@ -164,9 +213,20 @@ dialog::backdrop { background: #0008; }
 
 @media (max-width: 800px) {
   body { height: auto; }
+  main { display: block; }
   #work { display: block; }
+  #picked { max-width: calc(100% - 4.2rem); }
   #mapbox { height: 48vh; flex: none; }
   #panel { border: 0; overflow: visible; }
+  #standing { max-height: none; }
+  .standing thead { position: absolute; width: 1px; height: 1px; overflow: hidden; clip-path: inset(50%); }
+  .standing thead th { white-space: nowrap; }
+  .standing, .standing tbody { display: block; }
+  .standing tr { display: flex; flex-wrap: wrap; gap: 0 .6rem; justify-content: space-between; border-top: 1px solid var(--line); }
+  .standing th, .standing td { border: 0; width: auto !important; }
+  .standing tbody th { flex: 1 1 40%; }
+  .standing td:nth-child(3) { order: 0; }
+  .standing td:nth-child(2), .standing td:nth-child(4) { flex: 1 1 100%; order: 1; }
   .tiles b { font-size: 1.1rem; }
   #legend { font-size: .7rem; }
 }

@@ -106,6 +106,23 @@ export async function askIfThere(target) {
   }
 }
 
+/**
+ * What everyone is told without an access token, `policies` or `geographies` by the endpoints of MDS: `{list, at}` with the
+ * moment at which it last changed; null where the server tells it to nobody.
+ */
+export async function askPublic(kind) {
+  let answer, told;
+  try {
+    answer = await fetch(`mds/2.0/${kind}`, { cache: "no-store", credentials: "omit" });
+    told = await answer.json().catch(() => null);
+  } catch {
+    throw new Refused(0, "unreachable");
+  }
+  if (answer.ok && Array.isArray(told?.data?.[kind])) return { list: told.data[kind], at: told.last_updated };
+  if (answer.status >= 500) throw new Refused(answer.status, told?.error || "unreachable");
+  return null;
+}
+
 /** The page's settings, those that are given here where the server has none. */
 export async function settings(usual) {
   try {

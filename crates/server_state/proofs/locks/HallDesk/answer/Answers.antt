@@ -1,11 +1,7 @@
-use Rattle.std.specs.Prelude.{option_copied}
-use Rattle.mds_desk.specs.Desk.{state_of}
-use Rattle.server_state.specs.WholeRequest.{request_heard}
-use Rattle.server_state.proofs.Turns.{desk_replies}
 use Rattle.server_state.proofs.locks.HallDesk.answer.Goals as goal
 
+pub returns-clause-turn : goal.returns-clause-turn
+returns-clause-turn g c = rw c.request-request.ensures at c.answer_request.ensures.turn
+
 pub returns-clause-replies : goal.returns-clause-replies
-returns-clause-replies g c =
-    let d = c.args.self.now in
-    desk_replies g.K.HallName.configuration d.place (state_of d.desk) (option_copied c.args.note) (request_heard c.args.heard) c.take_turn-reply.result
-    (state_of c.take_turn-reply.new.desk) (record { configured = d.configured; placed = d.placed }) (rw c.request-request.ensures at c.take_turn-reply.ensures.turn)
+returns-clause-replies g c = rw c.request-request.ensures at c.answer_request.ensures.replies

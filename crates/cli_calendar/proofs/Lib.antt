@@ -1,0 +1,2 @@
+mod Spaced
+mod Told

@@ -1,0 +1,6 @@
+mod Dayed
+mod Groups
+mod Guarded
+mod Longest
+mod Rowed
+mod Spelled

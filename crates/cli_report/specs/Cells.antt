@@ -1,0 +1,64 @@
+-- Cells and rows of a report, and how they are written (RFC 4180, section 2).
+use Rattle.std.specs.Prelude.{◌≡◌, ℕ, ◌/◌, List, [], ◌∷◌, ◌++◌, Option, Some, None}
+use Rattle.std.specs.Fmt.{decimal}
+use Rattle.uuid.specs.Text.{hyphenated_text, lower}
+use Rattle.mds_match.specs.Zone.{ZoneKind}
+use Rattle.cli_calendar.specs.Clocks.{clock_at}
+use Rattle.cli_calendar.specs.Texts.{IsDay, IsLocal, IsUtc}
+use Rattle.cli_report.specs.Csv.{cell_text}
+use Rattle.cli_report.specs.Texts.{Spells}
+use Rattle.cli_report.specs.declared.cell.Cell as program
+use Rattle.cli_report.specs.declared.cell.Cell.TheVariants as cell
+
+-- what a cell tells: a text, an identifier, a number, a bound where there is one, a moment in UTC, a moment in the city's
+-- zone where there is one, and the local day of a moment
+pub data Cell : Type 0 where
+  text : List ℕ → Cell
+  identifier : List ℕ → Cell
+  number : ℕ → Cell
+  bound : Option ℕ → Cell
+  utc : ℕ → Cell
+  local : Option ℕ → Cell
+  day : ℕ → Cell
+
+-- the cell that a `Cell` of the program stands for
+abbrev pub cell_view : program.Cell → Cell
+cell_view (cell.Text bytes) = text bytes.now
+cell_view (cell.Id id) = identifier id
+cell_view (cell.Number n) = number n
+cell_view (cell.Bound limit) = bound limit
+cell_view (cell.Utc t) = utc t
+cell_view (cell.Local moment) = local moment
+cell_view (cell.Day t) = day t
+
+abbrev pub bound_text : Option ℕ → List ℕ
+bound_text None = []
+bound_text (Some n) = decimal n
+
+abbrev pub IsLocalIf : ZoneKind → Option ℕ → List ℕ → Type 0
+IsLocalIf zone None bytes = bytes ≡ []
+IsLocalIf zone (Some t) bytes = IsLocal zone t bytes
+
+-- the text that a cell has
+abbrev pub IsText : ZoneKind → Cell → List ℕ → Type 0
+IsText zone (text s) bytes = bytes ≡ s
+IsText zone (identifier id) bytes = bytes ≡ hyphenated_text lower id
+IsText zone (number n) bytes = bytes ≡ decimal n
+IsText zone (bound limit) bytes = bytes ≡ bound_text limit
+IsText zone (utc t) bytes = IsUtc t bytes
+IsText zone (local moment) bytes = IsLocalIf zone moment bytes
+IsText zone (day t) bytes = IsDay (clock_at zone t / 86400) bytes
+
+-- the text as it stands in a row
+unfoldable pub IsCell : ZoneKind → Cell → List ℕ → Type 0
+IsCell zone c bytes = (plain : List ℕ) × IsText zone c plain × (bytes ≡ cell_text plain)
+
+-- each cell but the first has a comma in front
+unfoldable pub IsLater : ZoneKind → Cell → List ℕ → Type 0
+IsLater zone c bytes = (own : List ℕ) × IsCell zone c own × (bytes ≡ 44 ∷ own)
+
+-- a row ends with a carriage return and a line feed
+unfoldable pub IsRow : ZoneKind → List Cell → List ℕ → Type 0
+IsRow zone [] bytes = bytes ≡ 13 ∷ 10 ∷ []
+IsRow zone (c ∷ cells) bytes =
+    (first later : List ℕ) × IsCell zone c first × Spells (IsLater zone) cells later × (bytes ≡ first ++ later ++ 13 ∷ 10 ∷ [])

@@ -1,0 +1,7 @@
+pub mod Cells
+pub mod Csv
+pub mod Days
+pub mod Names
+pub mod Page
+pub mod Rows
+pub mod Texts

@@ -1,0 +1,24 @@
+//! The report on how operators stood: what was sampled of each rule as rows of CSV (RFC 4180), a summary of each rule's
+//! days, and both as a page that prints.
+#![tactic(auto)]
+
+mod cell;
+mod csv;
+mod days;
+mod escape;
+mod names;
+mod page;
+mod ranking;
+mod reported;
+mod rows;
+mod summary;
+#[cfg(test)]
+mod tests;
+mod timeline;
+mod verdicts;
+mod words;
+
+pub use page::{page_start, push_page_end, push_page_operator};
+pub use reported::{ReportSpan, ReportedOperator};
+pub use summary::{push_summary, summary_header};
+pub use verdicts::{push_verdicts, verdicts_header};

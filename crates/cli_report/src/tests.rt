@@ -1,0 +1,203 @@
+//! The examples of RFC 4180, and a night on which the clocks of New York are set back, worked out by hand.
+use crate::csv::push_text;
+use crate::{
+    ReportSpan, ReportedOperator, page_start, push_page_end, push_page_operator, push_summary,
+    push_verdicts, summary_header, verdicts_header,
+};
+use journal_samples::RuleSample;
+use mds_catalog::Catalogue;
+use mds_match::Zone;
+use mds_text::{Id, Moment};
+use mds_verdict::Status;
+use std::alloc::{AllocError, Global};
+
+/// New York: clocks are set back on 1 November 2026 at 02:00.
+const NEW_YORK: &str = "EST5EDT,M3.2.0,M11.1.0";
+/// The midnight before.
+const MIDNIGHT: i64 = 1_793_505_600_000;
+/// The milliseconds of an hour.
+const HOUR: i64 = 3_600_000;
+/// The operator's identifier.
+const OPERATOR: &str = "11111111-1111-4111-8111-111111111111";
+/// What each row of the rule has behind the operator's cells.
+const RULE: &str = "22222222-2222-4222-8222-222222222222,,0,33333333-3333-4333-8333-333333333333,,";
+
+/// A sample of the rule, so many hours after midnight.
+fn sample(hour: i64, status: Status, measure: u64) -> Option<RuleSample> {
+    let after = hour.checked_mul(HOUR)?;
+    let at = Moment::new(MIDNIGHT.checked_add(after)?)?;
+    let policy = Id::read("22222222-2222-4222-8222-222222222222")?;
+    let rule = Id::read("33333333-3333-4333-8333-333333333333")?;
+    Some(RuleSample {
+        at,
+        policy,
+        number: 0,
+        rule,
+        status,
+        measure,
+    })
+}
+
+/// Appends a sample of the rule, so many hours after midnight.
+fn push_sample(
+    all: &mut Vec<RuleSample>,
+    hour: i64,
+    status: Status,
+    measure: u64,
+) -> Result<(), AllocError> {
+    if let Some(sample) = sample(hour, status, measure) {
+        all.push(sample)?;
+    }
+    Ok(())
+}
+
+/// A sample on the evening before, and five of a night that has 01:00 twice.
+fn samples(alloc: Global) -> Result<Vec<RuleSample>, AllocError> {
+    let mut all = Vec::new(alloc);
+    push_sample(&mut all, -1, Status::Violated, 5)?;
+    push_sample(&mut all, 0, Status::Ok, 2)?;
+    push_sample(&mut all, 1, Status::Violated, 7)?;
+    push_sample(&mut all, 2, Status::Violated, 9)?;
+    push_sample(&mut all, 3, Status::Inactive, 0)?;
+    push_sample(&mut all, 4, Status::Violated, 8)?;
+    Ok(all)
+}
+
+/// Each hour from one moment to another.
+fn hours(from: Moment, to: Moment) -> ReportSpan {
+    ReportSpan {
+        from,
+        to,
+        every: 3_600_000,
+    }
+}
+
+/// Whether a text has this part.
+fn has_part(text: &[u8], part: &str) -> bool {
+    for start in 0..text.len() {
+        if text[start..].starts_with(part.as_bytes()) {
+            return true;
+        }
+    }
+    false
+}
+
+// RFC 4180, section 2, rules 6 and 7.
+#[test]
+fn cells_of_csv(rt: HostRuntime) -> Result<(), AllocError> {
+    let mut out = Vec::new(rt.alloc());
+    push_text(&mut out, b"aaa")?;
+    out.push(b',')?;
+    push_text(&mut out, b"b \r\nbb")?;
+    out.push(b',')?;
+    push_text(&mut out, b"b\"bb")?;
+    assert!(rt; out.as_slice() == b"aaa,\"b \r\nbb\",\"b\"\"bb\"".as_slice());
+    Ok(())
+}
+
+#[test]
+fn formulas_are_texts(rt: HostRuntime) -> Result<(), AllocError> {
+    let mut out = Vec::new(rt.alloc());
+    push_text(&mut out, b"=1+1")?;
+    push_text(&mut out, b"\t,")?;
+    push_text(&mut out, b"1-1")?;
+    assert!(rt; out.as_slice() == b"'=1+1\"'\t,\"1-1".as_slice());
+    Ok(())
+}
+
+#[test]
+fn a_night_of_verdicts(rt: HostRuntime) -> Result<(), AllocError> {
+    let alloc = rt.alloc();
+    let Ok(zone) = Zone::read(NEW_YORK) else {
+        assert!(rt; false);
+        return Ok(());
+    };
+    let catalogue = Catalogue::with_room(alloc)?;
+    let mut samples = Vec::new(alloc);
+    push_sample(&mut samples, 1, Status::Violated, 7)?;
+    let operator = ReportedOperator {
+        id: Id::read(OPERATOR).expect(&rt, "an identifier"),
+        name: b"=cmd, \"x\"",
+        samples: &samples,
+        catalogue: &catalogue,
+    };
+    let mut out = verdicts_header(alloc)?;
+    assert!(rt; has_part(&out, ",status,measure,minimum,maximum\r\n"));
+    out.clear();
+    push_verdicts(alloc, &mut out, &zone, &operator)?;
+    let row = format!(in alloc;
+        "2026-11-01T05:00:00Z,2026-11-01T01:00:00-04:00,{OPERATOR},\"'=cmd, \"\"x\"\"\",{RULE}violated,7,,\r\n"
+    )?;
+    assert!(rt; out.as_slice() == row.as_bytes());
+    Ok(())
+}
+
+#[test]
+fn a_night_in_short(rt: HostRuntime) -> Result<(), AllocError> {
+    let alloc = rt.alloc();
+    let Ok(zone) = Zone::read(NEW_YORK) else {
+        assert!(rt; false);
+        return Ok(());
+    };
+    let catalogue = Catalogue::with_room(alloc)?;
+    let samples = samples(alloc)?;
+    let operator = ReportedOperator {
+        id: Id::read(OPERATOR).expect(&rt, "an identifier"),
+        name: b"Scoot",
+        samples: &samples,
+        catalogue: &catalogue,
+    };
+    let mut out = summary_header(alloc)?;
+    assert!(rt; has_part(&out, ",day,samples,violated,longest,"));
+    out.clear();
+    push_summary(alloc, &mut out, &zone, &operator)?;
+    let evening = "2026-10-31T23:00:00-04:00";
+    let one = "2026-11-01T01:00:00-04:00";
+    let again = "2026-11-01T01:00:00-05:00";
+    let three = "2026-11-01T03:00:00-05:00";
+    let first = format!(in alloc;
+        "{OPERATOR},Scoot,{RULE}2026-10-31,1,1,1,{evening},{evening},{evening},{evening},5\r\n"
+    )?;
+    let second = format!(in alloc;
+        "{OPERATOR},Scoot,{RULE}2026-11-01,5,3,2,{one},{again},{one},{three},9\r\n"
+    )?;
+    let mut rows = first;
+    rows.push_str(second.as_str())?;
+    assert!(rt; out.as_slice() == rows.as_bytes());
+    Ok(())
+}
+
+#[test]
+fn a_night_on_the_page(rt: HostRuntime) -> Result<(), AllocError> {
+    let alloc = rt.alloc();
+    let Ok(zone) = Zone::read(NEW_YORK) else {
+        assert!(rt; false);
+        return Ok(());
+    };
+    let catalogue = Catalogue::with_room(alloc)?;
+    let samples = samples(alloc)?;
+    let from = Moment::new(1_793_502_000_000).expect(&rt, "a moment");
+    let to = Moment::new(1_793_520_000_000).expect(&rt, "a moment");
+    let operator = ReportedOperator {
+        id: Id::read(OPERATOR).expect(&rt, "an identifier"),
+        name: b"<script>",
+        samples: &samples,
+        catalogue: &catalogue,
+    };
+    let mut out = page_start(alloc, &zone, hours(from, to))?;
+    push_page_operator(alloc, &mut out, &zone, hours(from, to), &operator)?;
+    push_page_end(&mut out)?;
+    assert!(rt;
+        has_part(
+            &out,
+            "2026-10-31T23:00:00-04:00 to before 2026-11-01T03:00:00-05:00, every 60 minutes."
+        )
+    );
+    assert!(rt; has_part(&out, "<h2>&lt;script&gt; <small>"));
+    assert!(rt; !has_part(&out, "<script"));
+    // From 01:00 on, two samples that stand for an hour each.
+    assert!(rt; has_part(&out, "height=\"12\" x=\"60\" width=\"120\"/>"));
+    assert!(rt; has_part(&out, "Violated in 4 of 6 samples."));
+    assert!(rt; has_part(&out, "</svg></td><td>3 of 5</td>"));
+    Ok(())
+}

@@ -1,0 +1,48 @@
+-- The names of archived journals, and when one is kept.
+use Rattle.std.specs.Prelude.{◌≡◌, ℕ, ◌==◌, List, [], ◌∷◌, ◌++◌, length, drop, map, codes, bytes_eq, if◌then◌else◌, Option, Some, None, IfSome}
+use Rattle.std.specs.Fmt.{decimal}
+use Rattle.journal_entry.specs.Entries.{Entry, entry_text}
+use Rattle.journal_file.specs.Groups.{listed}
+use Rattle.journal_file.specs.Records.{Reads, extent}
+use Rattle.journal_folder.specs.declared.archive.JournalSpan.{JournalSpan}
+use Rattle.journal_folder.specs.declared.archive.ArchiveSlot.{ArchiveSlot}
+use Rattle.journal_folder.specs.declared.archive.ArchiveSlot.TheVariants.{Free, Same, Taken}
+
+-- the moment of the last of these entries, or this one where there is none
+abbrev pub last_at : ℕ → List Entry → ℕ
+last_at at [] = at
+last_at at (e ∷ entries) = last_at e.at entries
+
+-- the moments of the first entry and of the last; none without entries
+abbrev pub span_of : List Entry → Option JournalSpan
+span_of [] = None
+span_of (e ∷ entries) = Some (record { first = e.at; last = last_at e.at entries })
+
+-- behind the first of these payloads, the head, stand entries with this span
+abbrev pub IsSpanOf : List (List ℕ) → Option JournalSpan → Type 0
+IsSpanOf texts span = (entries : List Entry) × (drop 1 texts ≡ map entry_text entries) × (span ≡ span_of entries)
+
+-- the bytes are whole records to their end, those of a journal with this span
+abbrev pub IsSpan : List ℕ → Option JournalSpan → Type 0
+IsSpan bytes span = (all : List (List ℕ)) × Reads 0 bytes all × (extent all ≡ length bytes) × IsSpanOf (listed all) span
+
+-- `journal-FIRST-LAST`, in milliseconds since the Unix epoch
+abbrev pub span_name : JournalSpan → List ℕ
+span_name span = codes "journal-" ++ decimal span.first ++ codes "-" ++ decimal span.last
+
+-- and after that one `journal-FIRST-LAST.1`, `journal-FIRST-LAST.2` and so on
+abbrev pub archive_name : JournalSpan → ℕ → List ℕ
+archive_name span number = if number == 0 then span_name span else span_name span ++ codes "." ++ decimal number
+
+-- a name is free where nothing has it, or the bytes themselves stand there, or others do
+abbrev pub slot_of : Option (List ℕ) → List ℕ → ArchiveSlot
+slot_of None bytes = Free
+slot_of (Some found) bytes = if bytes_eq found bytes then Same else Taken
+
+-- under one of a span's names stand these bytes, where `has` says which names have which
+abbrev pub HasSpan : (List ℕ → List ℕ → Type 0) → List ℕ → JournalSpan → Type 0
+HasSpan has bytes span = (number : ℕ) × has (archive_name span number) bytes
+
+-- a journal's bytes are archived under a name of their span, or they have no entries
+abbrev pub IsArchived : (List ℕ → List ℕ → Type 0) → List ℕ → Type 0
+IsArchived has bytes = (span : Option JournalSpan) × IsSpan bytes span × IfSome span (HasSpan has bytes)

@@ -1,0 +1,5 @@
+pub mod Held
+pub mod Journals
+pub mod Samples
+pub mod Servers
+pub mod Standing

@@ -1,0 +1,353 @@
+//! Views of operators' fleets: what an operator's own desk answers it, told to the operator itself, and to the author
+//! as far as the configuration's oversight goes. Each desk is asked under its own lock, one after another, and nothing
+//! changes.
+ghost use Rattle.std.specs.Prelude.{◌≡◌, ◌++◌, ◌<◌, IfOk, IfSome, OnOk, Some, bytes_eq, false, length, map, position, slice_get};
+ghost use Rattle.mds_request.specs.Configuration.{configuration, operator as operator_view};
+ghost use Rattle.mds_request.specs.Request.{request_of};
+ghost use Rattle.server_app.specs.ComplianceList.{compliance_list, entries_text};
+ghost use Rattle.server_app.specs.OperatorNames.{badge_view, badges_view};
+ghost use Rattle.server_state.specs.Response.{Says};
+ghost use Rattle.server_state.specs.Turn.{SaysOne};
+ghost use Rattle.server_durable.specs.CacheControl.{Waits};
+ghost use Rattle.server_durable.specs.declared.fleet_views.ComplianceAnswers.TheVariants.{Refusal, Successes};
+ghost use Rattle.server_durable.specs.FleetViews.{AreOwnBodies, IsEachCompliance, IsOwnView, IsRefusedByOne, IsViewOf, covers, own_request, place_of, target_for};
+
+use crate::context::Context;
+use crate::durable_hall::{AnswerAtPosition, DurableHall};
+use crate::pending::{NoResponse, ResponseAfterSync};
+use crate::records::is_accepted;
+use bytes::Bytes;
+use journal_commit::{CommitFault, LogName, Space};
+use journal_file::Log;
+use mds_catalog::Catalogue;
+use mds_desk::{OpenGate, SharedReply};
+use mds_request::{Code, Config, Operator, Request, Verb};
+use mds_text::{Id, Moment};
+use mds_verdict::Evaluator;
+use server_app::{OperatorName, Oversight, begin_compliance_list, push_compliance};
+use server_routes::FleetView;
+use server_state::HallName;
+use std::alloc::{AllocError, Global};
+use std::sync::Wait;
+
+/// Whether the author has such views.
+fn covers(oversight: Oversight, view: FleetView) -> bool
+    ensures { result ≡ covers oversight view }
+{
+    match (oversight, view) {
+        (Oversight::Nothing, _) => false,
+        (Oversight::Verdicts, FleetView::Compliance) => true,
+        (Oversight::Verdicts, FleetView::Vehicles) => false,
+        (Oversight::Vehicles, _) => true,
+    }
+}
+
+/// The target of the protocol's call that has a view.
+fn target_for(view: FleetView) -> &'static [u8]
+    ensures { result.now ≡ target_for view }
+{
+    match view {
+        FleetView::Compliance => b"/compliance",
+        FleetView::Vehicles => b"/fleet/vehicles",
+    }
+}
+
+/// An operator's own request for a view.
+fn own_request(operator: &Operator, view: FleetView, at: Moment) -> Request<'_>
+    ensures { request_of result ≡ own_request (operator_view operator.now) view at }
+{
+    Request {
+        at,
+        token: operator.token.as_bytes(),
+        verb: Verb::Get,
+        target: target_for(view),
+        body: &[],
+    }
+}
+
+/// Whether two identifiers are the same.
+fn are_same(id: Id, other: Id) -> bool
+    ensures { result ≡ bytes_eq id other }
+{
+    id == other
+}
+
+/// The place of the operator with this identifier among these.
+fn place_among(operators: &[Operator], id: Id) -> Option<usize>
+    ensures place { result ≡ position (λ o. bytes_eq id (operator_view o).id) operators.now }
+    ensures within { IfSome result (λ place. place < length operators.now) }
+{
+    operators
+        .iter()
+        .position(|operator| are_same(id, operator.id))
+}
+
+/// The place of the operator with this identifier.
+fn place_of(config: &Config, id: Id) -> Option<usize>
+    ensures place { result ≡ place_of (configuration config.now) id }
+    ensures within { IfSome result (λ place. place < length (configuration config.now).operators) }
+{
+    place_among(config.operators(), id)
+}
+
+/// The operator at this place.
+fn operator_at(config: &Config, place: usize) -> &Operator
+    requires { place < length (configuration config.now).operators }
+    ensures { slice_get (configuration config.now).operators place ≡ Some (operator_view result.now) }
+{
+    &config.operators()[place]
+}
+
+/// Adds an entry for each answer and its operator, in order.
+fn push_entries(
+    text: &mut Vec<u8>,
+    answers: &[SharedReply],
+    operators: &[OperatorName],
+) -> Result<(), AllocError>
+    ensures { OnOk result (text.new.items
+        ≡ text.old.items ++ entries_text false (map (λ answer. answer.body) answers.now) (map badge_view operators.now)) }
+{
+    let mut rest = answers;
+    let mut names = operators;
+    let mut is_later = false;
+    while let Some((answer, further)) = rest.split_first() {
+        let Some((operator, others)) = names.split_first() else {
+            return Ok(());
+        };
+        push_compliance(text, is_later, answer.body(), operator)?;
+        rest = further;
+        names = others;
+        is_later = true;
+    }
+    Ok(())
+}
+
+/// The answer about each operator's compliance, of the operators' own answers in their order.
+fn combine(
+    alloc: Global,
+    at: Moment,
+    answers: &[SharedReply],
+    operators: &[OperatorName],
+) -> Result<SharedReply, AllocError>
+    ensures status { IfOk result (λ reply. reply.status ≡ 200) }
+    ensures body { IfOk result (λ reply. reply.body ≡ compliance_list at (map (λ answer. answer.body) answers.now) (map badge_view operators.now)) }
+{
+    let mut text = begin_compliance_list(alloc, at)?;
+    push_entries(&mut text, answers, operators)?;
+    text.extend_from_slice(b"]}")?;
+    Ok(SharedReply::from_cached(Bytes::from_vec(text)?))
+}
+
+/// Each operator's own answer, in the configuration's order, or the first refusal among them.
+#[derive(Drop)]
+enum ComplianceAnswers {
+    Successes(Vec<SharedReply>),
+    Refusal(SharedReply),
+}
+
+impl<K: HallName, N: LogName, L: Log, S: Space> DurableHall<K, N, L, S> {
+    /// What the desk of the operator at this place answers it, by one turn under the desk's lock.
+    ///
+    /// # Errors
+    ///
+    /// Out of memory.
+    fn own_view<R: Wait, E: Evaluator<Catalogue>>(
+        &self,
+        context: &Context<'_, R, E>,
+        place: usize,
+        view: FleetView,
+        at: Moment,
+    ) -> Result<SharedReply, CommitFault>
+        requires judge { E.may_judge }
+        requires place { place < length K.configuration.operators }
+        ensures { IfOk result (IsOwnView K.configuration place view at) }
+    {
+        let config = self.hall.configuration()?;
+        let request = own_request(operator_at(&*config, place), view, at);
+        let Some(mut desk) = self.hall.desk_at(context.rt, place) else {
+            return Err(CommitFault::NoMemory);
+        };
+        let note = self.hall.note(context.rt);
+        let answer = desk.answer_request(&request, note.as_ref(), &mut OpenGate, context.evaluator);
+        Ok(answer)
+    }
+
+    /// What each operator's desk answers it about its compliance, one desk after another.
+    ///
+    /// # Errors
+    ///
+    /// Out of memory.
+    fn own_answers<R: Wait, E: Evaluator<Catalogue>>(
+        &self,
+        context: &Context<'_, R, E>,
+        at: Moment,
+    ) -> Result<ComplianceAnswers, CommitFault>
+        requires { E.may_judge }
+        ensures { IfOk result (elim [
+          | Successes answers ↦ AreOwnBodies K.configuration at 0 (map (λ answer. answer.body) answers.items)
+              × (length answers.items ≡ length K.configuration.operators)
+          | Refusal reply ↦ IsRefusedByOne K.configuration at reply
+        ]) }
+    {
+        let config = self.hall.configuration()?;
+        let operators = config.operators().len();
+        let mut answers = Vec::with_capacity(context.alloc, operators)?;
+        while answers.len() < operators {
+            let answer = self.own_view(context, answers.len(), FleetView::Compliance, at)?;
+            if !is_accepted(answer.status()) {
+                return Ok(ComplianceAnswers::Refusal(answer));
+            }
+            answers.push_reserved(answer);
+        }
+        Ok(ComplianceAnswers::Successes(answers))
+    }
+
+    /// The author's view of the fleet of the operator with this identifier.
+    ///
+    /// # Errors
+    ///
+    /// Out of memory.
+    fn view_of<R: Wait, E: Evaluator<Catalogue>>(
+        &self,
+        context: &Context<'_, R, E>,
+        view: FleetView,
+        id: Id,
+        at: Moment,
+    ) -> Result<SharedReply, CommitFault>
+        requires { E.may_judge }
+        ensures { IfOk result (IsViewOf K.configuration (badges_view self.now.badges) view id at) }
+    {
+        if !covers(self.badges.oversight(), view) {
+            return Ok(SharedReply::from(Code::Role));
+        }
+        let config = self.hall.configuration()?;
+        match place_of(&*config, id) {
+            Some(place) => self.own_view(context, place, view, at),
+            None => Ok(SharedReply::from(Code::NotFound)),
+        }
+    }
+
+    /// The author's view of each operator's compliance.
+    ///
+    /// # Errors
+    ///
+    /// Out of memory.
+    fn each_compliance<R: Wait, E: Evaluator<Catalogue>>(
+        &self,
+        context: &Context<'_, R, E>,
+        at: Moment,
+    ) -> Result<SharedReply, CommitFault>
+        requires { E.may_judge }
+        ensures { IfOk result (IsEachCompliance K.configuration (badges_view self.now.badges) at) }
+    {
+        if !covers(self.badges.oversight(), FleetView::Compliance) {
+            return Ok(SharedReply::from(Code::Role));
+        }
+        match self.own_answers(context, at)? {
+            ComplianceAnswers::Successes(answers) => {
+                let operators = self.badges.operators();
+                Ok(combine(context.alloc, at, &answers, operators)?)
+            }
+            ComplianceAnswers::Refusal(answer) => Ok(answer),
+        }
+    }
+
+    /// The response with an answer, once all that has been appended by now is synced.
+    ///
+    /// # Errors
+    ///
+    /// Out of memory for the response.
+    fn reply_now(
+        &self,
+        alloc: Global,
+        answer: SharedReply,
+    ) -> Result<ResponseAfterSync<N, L, S>, NoResponse>
+        ensures { IfOk result (λ s. Waits (λ response. Says response answer) s.reply) }
+    {
+        let stamp = self.current_position();
+        self.reply(alloc, AnswerAtPosition { answer, stamp })
+    }
+}
+
+/// Answers the operator at this place with a view of its own fleet.
+///
+/// # Errors
+///
+/// Out of memory.
+pub(crate) fn answer_own_fleet<
+    K: HallName,
+    N: LogName,
+    R: Wait,
+    E: Evaluator<Catalogue>,
+    L: Log,
+    S: Space,
+>(
+    context: &Context<'_, R, E>,
+    place: usize,
+    view: FleetView,
+    at: Moment,
+    city: &DurableHall<K, N, L, S>,
+) -> Result<ResponseAfterSync<N, L, S>, NoResponse>
+    requires judge { E.may_judge }
+    requires place { place < length K.configuration.operators }
+    ensures { IfOk result (λ s. Waits (SaysOne (IsOwnView K.configuration place view at)) s.reply) }
+{
+    match city.own_view(context, place, view, at) {
+        Ok(answer) => city.reply_now(context.alloc, answer),
+        Err(fault) => Err(NoResponse::NotTold(fault)),
+    }
+}
+
+/// Answers the author with a view of the fleet of the operator with this identifier.
+///
+/// # Errors
+///
+/// Out of memory.
+pub(crate) fn answer_operator_fleet<
+    K: HallName,
+    N: LogName,
+    R: Wait,
+    E: Evaluator<Catalogue>,
+    L: Log,
+    S: Space,
+>(
+    context: &Context<'_, R, E>,
+    view: FleetView,
+    id: Id,
+    at: Moment,
+    city: &DurableHall<K, N, L, S>,
+) -> Result<ResponseAfterSync<N, L, S>, NoResponse>
+    requires { E.may_judge }
+    ensures { IfOk result (λ s. Waits (SaysOne (IsViewOf K.configuration (badges_view city.now.badges) view id at)) s.reply) }
+{
+    match city.view_of(context, view, id, at) {
+        Ok(answer) => city.reply_now(context.alloc, answer),
+        Err(fault) => Err(NoResponse::NotTold(fault)),
+    }
+}
+
+/// Answers the author with a view of each operator's compliance.
+///
+/// # Errors
+///
+/// Out of memory.
+pub(crate) fn answer_each_compliance<
+    K: HallName,
+    N: LogName,
+    R: Wait,
+    E: Evaluator<Catalogue>,
+    L: Log,
+    S: Space,
+>(
+    context: &Context<'_, R, E>,
+    at: Moment,
+    city: &DurableHall<K, N, L, S>,
+) -> Result<ResponseAfterSync<N, L, S>, NoResponse>
+    requires { E.may_judge }
+    ensures { IfOk result (λ s. Waits (SaysOne (IsEachCompliance K.configuration (badges_view city.now.badges) at)) s.reply) }
+{
+    match city.each_compliance(context, at) {
+        Ok(answer) => city.reply_now(context.alloc, answer),
+        Err(fault) => Err(NoResponse::NotTold(fault)),
+    }
+}

@@ -1,0 +1,134 @@
+#!/usr/bin/env python3
+"""A week of River City: writes the journal that ruffletuff would have had of it, and the report on how its operators stood.
+
+    week.py PROGRAM DIR [--every MINUTES]
+
+PROGRAM is a built ruffletuff. DIR gets the city's folder `city` and the report, with report.html, in the place of earlier ones. The week is the one
+from Monday, 2 March 2026 on, with the night in which clocks are set forward. Places, policies and fleets are those of publish.py; the
+festival is in this week. Vehicles go downtown by day and back at night, and many to the waterfront at the weekend.
+"""
+
+import argparse
+import contextlib
+import json
+import os
+import random
+import subprocess
+import sys
+
+import publish
+
+HERE = os.path.dirname(os.path.abspath(__file__))
+sys.path.insert(0, os.path.join(HERE, "..", "..", "tests"))
+import records  # noqa: E402 (it stands in another folder)
+
+# 2 March 2026 at midnight in the city, in milliseconds since the Unix epoch.
+MONDAY, HOURS = 1_772_438_400_000, 7 * 24 - 1
+MINUTE, HOUR, WEEK = 60_000, 3_600_000, 7 * 24 * 3_600_000
+SEED = 7
+# Where a vehicle's trip ends: by day, at night, and in a night of the weekend, with the weight of each place.
+PLACES = ("downtown", "waterfront", "east", "city")
+BY_DAY, AT_NIGHT, AT_THE_WEEKEND = (55, 5, 8, 32), (15, 1, 24, 60), (20, 30, 8, 42)
+# Of all vehicles so many report in an hour by day, and at night.
+BUSY, QUIET = 0.25, 0.05
+FILES = ("verdicts.csv", "summary.csv", "report.html")
+
+
+def in_the_week(policy):
+    """A policy moved by whole weeks until it begins in the week."""
+    weeks = (policy["start_date"] - MONDAY) // WEEK
+    return {**policy, "start_date": policy["start_date"] - weeks * WEEK, "end_date": policy["end_date"] - weeks * WEEK}
+
+
+def of_author():
+    """What the author asks for at the week's begin: the earlier cap with the places, then the policies."""
+    places, (earlier, *policies) = publish.named("geography"), publish.named("policy")
+    policies[-1] = in_the_week(policies[-1])
+    for it in places:
+        yield "PUT", f"/drafts/geographies/{it['geography_id']}", it
+    for it in (earlier, *policies):
+        yield "PUT", f"/drafts/policies/{it['policy_id']}", it
+    yield "POST", "/publish", {"geographies": [it["geography_id"] for it in places], "policies": [earlier["policy_id"]]}
+    yield "POST", "/publish", {"policies": [it["policy_id"] for it in policies]}
+
+
+def weights(hour):
+    """Where trips end in an hour of the week, and how many vehicles report in it."""
+    day, of_day = divmod(hour, 24)
+    if day in (4, 5) and of_day >= 19 or day in (5, 6) and of_day < 3:
+        return AT_THE_WEEKEND, BUSY
+    return (BY_DAY, BUSY) if 7 <= of_day < 19 else (AT_NIGHT, QUIET)
+
+
+def reported(vehicle, at, state, place=None):
+    """A vehicle's report at a moment, from where it was or from another place."""
+    location = vehicle["location"] if place is None else publish.somewhere(CHANCE, place, ())
+    return {**vehicle, "timestamp": at, "vehicle_state": state, "event_types": [publish.EVENTS[state]], "location": location}
+
+
+def of_operators(ids):
+    """What operators report: their vehicles at the week's begin, and then trips, hour by hour. Each with its moment and operator."""
+    fleets = {it: list(publish.fleet(groups, SEED, MONDAY)) for it, groups in zip(ids, (publish.SCOOT, publish.WHEELS), strict=True)}
+    for operator, vehicles in fleets.items():
+        yield from ((MONDAY + 1, operator, it) for it in vehicles)
+    for hour in range(HOURS):
+        found, (where, busy) = [], weights(hour)
+        for operator, vehicles in fleets.items():
+            for number, vehicle in enumerate(vehicles):
+                if CHANCE.random() >= busy:
+                    continue
+                begun = MONDAY + hour * HOUR + CHANCE.randrange(40) * MINUTE
+                trip = reported(vehicle, begun, "on_trip")
+                stands = reported(trip, begun + CHANCE.randrange(3, 20) * MINUTE, "available", CHANCE.choices(PLACES, where)[0])
+                found += [(it["timestamp"] + 1, operator, it) for it in (trip, stands)]
+                vehicles[number] = stands
+        yield from sorted(found, key=lambda it: it[0])
+
+
+def texts(configuration):
+    """The payloads of the journal."""
+    operators = configuration["operators"]
+    yield records.head([(it["id"], it["limit"]) for it in operators])
+    for method, target, body in of_author():
+        yield records.entry(MONDAY, method, None, target.encode(), json.dumps(body).encode())
+    for at, operator, body in of_operators([it["id"] for it in operators]):
+        yield records.entry(at, "POST", operator, b"/fleet/events", json.dumps(body, separators=(",", ":")).encode())
+
+
+def journal(configuration):
+    """The bytes of the journal, and how many records it has."""
+    parts, sum_, position = [], 0, 0
+    for text in texts(configuration):
+        part, sum_ = records.group(sum_, position, position, [text])
+        parts.append(part)
+        position += len(part)
+    return b"".join(parts), len(parts)
+
+
+CHANCE = random.Random(SEED)
+
+
+def main():
+    parser = argparse.ArgumentParser(description=__doc__, formatter_class=argparse.RawDescriptionHelpFormatter)
+    parser.add_argument("program")
+    parser.add_argument("folder")
+    parser.add_argument("--every", default="15")
+    options = parser.parse_args()
+    os.makedirs(city := os.path.join(options.folder, "city"), exist_ok=True)
+    for it in FILES:
+        with contextlib.suppress(FileNotFoundError):
+            os.remove(os.path.join(options.folder, it))
+    bytes_, count = journal(publish.document("city.json"))
+    with open(os.path.join(city, "journal"), "wb") as file:
+        file.write(bytes_)
+    print(f"a week of {count} records, {len(bytes_)} bytes, in {city}", flush=True)
+    times = ("--from", "2026-03-02", "--to", "2026-03-09", "--every", options.every)
+    words = ["report", city, "--config", os.path.join(HERE, "city.json"), *times, "--out", options.folder]
+    status = subprocess.run([options.program, *words], check=False).returncode
+    if not status:
+        print(f"the report is {os.path.join(options.folder, 'report.html')}")
+    return status
+
+
+if __name__ == "__main__":
+    sys.exit(main())
