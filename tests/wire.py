@@ -205,7 +205,8 @@ def may_open(count):
 def free_port():
     """A port that nobody listens at, below those of which the system gives one to each connection: so no connection takes it meanwhile.
 
-    Nor does another test: the last number that was given stands in a file that all tests of a user share, and numbers go round.
+    Nor does another test: the last number that was given stands in a file that all tests of a user share, and numbers go round. A program
+    that another thread starts meanwhile has a copy of the probe until it is executed, so the probe is one beside which can be listened.
     """
     first, last = 10_000, 31_999
     name = os.path.join(tempfile.gettempdir(), f"ruffletuff-test-ports-{os.getuid()}")
@@ -217,6 +218,7 @@ def free_port():
         while True:
             port = port + 1 if port < last else first
             with socket.socket() as probe, contextlib.suppress(OSError):
+                probe.setsockopt(socket.SOL_SOCKET, socket.SO_REUSEADDR, 1)
                 probe.bind(("127.0.0.1", port))
                 given.seek(0)
                 given.truncate()
