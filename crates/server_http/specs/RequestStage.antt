@@ -19,7 +19,10 @@ abbrev pub CanPoll : {P H F I : Type 0} → (F → Type 0) → RequestFuture P H
 CanPoll can_poll (Admitted request) = CanProceed can_poll request.stage
 CanPoll can_poll (Refused request) = ⊤
 
--- once its response is pending, the bytes of its body are released, and whether its connection closes stays known
+-- a queued request has a pending response, or its connection is gone; the bytes of its body are released, and whether its
+-- connection closes stays known
 abbrev pub IsReleased : {F I : Type 0} → RequestStage F I → RequestStage F I → Type 0
 IsReleased (Queued arrived turn) (Answering reply kept) = (body_in kept ≡ []) × (closes_after kept ≡ closes_after arrived)
+IsReleased (Queued arrived turn) Finished = ⊤
+IsReleased (Queued arrived turn) new = ⊥
 IsReleased old new = ⊤

@@ -1,6 +1,6 @@
 //! A request that may wait: its body is read within its limit and its deadline, then it waits for
 //! its turn, and then it is answered.
-ghost use Rattle.std.specs.Prelude.{◌≡◌, ◌+◌, ◌≤◌, [], None, IfOk, IsSome};
+ghost use Rattle.std.specs.Prelude.{◌≡◌, ◌+◌, ◌≤◌, [], None, IfOk, OnOk, IsSome};
 ghost use Rattle.futures.specs.Task.{Covers, Keeps};
 ghost use Rattle.futures.specs.Poll.{IfReady, OnPending};
 ghost use Rattle.server_admission.specs.Arrival.{body_in, closes_after};
@@ -159,7 +159,7 @@ impl<P: ServerConn, I: Drop> AdmittedRequest<P, P::Head, P::Reply, I> {
     fn start_answer(&mut self) -> Result<(), Crowded>
         requires ready { P.may_answer }
         ensures stage { CanProceed P.Reply.can_poll self.new.stage }
-        ensures body { IsReleased self.old.stage self.new.stage }
+        ensures body { OnOk result (IsReleased self.old.stage self.new.stage) }
     {
         let stage = mem::replace(&mut self.stage, RequestStage::Finished);
         let RequestStage::Queued(arrived, _) = stage else {

@@ -29,7 +29,7 @@ pub use queues::Queues;
 pub use replies::{busy, close_unless_whole, with_close};
 pub use runtime::ConnectionRuntime;
 pub use server::{ServeOutcome, bind_first, serve_by, serve_up_to};
-pub use server_context::{Crowded, RequestService, ServerContext};
+pub use server_context::{Crowded, RequestService, ServerContext, SharedService};
 pub use serving::{AcceptorParts, serve_all};
 pub use shutdown::{ShutdownFuture, ShutdownHandle};
 pub use slots::{Admittance, ConnSlot, ConnTable};

@@ -3,7 +3,7 @@
 use crate::accept::AcceptOrPause;
 use crate::queues::Queues;
 use crate::runtime::ConnectionRuntime;
-use crate::server_context::{RequestService, ServerContext};
+use crate::server_context::{RequestService, ServerContext, SharedService};
 use crate::serving::{AcceptorParts, serve_all};
 use crate::shutdown::ShutdownHandle;
 use crate::slots::ConnTable;
@@ -129,7 +129,7 @@ pub fn serve_up_to<A, R>(
     connections: Option<usize>,
 ) -> io::Result<ServeOutcome<A>>
 where
-    A: RequestService + Send + Sync,
+    A: SharedService,
     A::Head: Send,
     A::Reply: Send,
     R: ConnectionRuntime,
@@ -166,7 +166,7 @@ pub fn serve_by<A, R>(
     closing: &ShutdownHandle,
 ) -> io::Result<ServeOutcome<A>>
 where
-    A: RequestService + Send + Sync,
+    A: SharedService,
     A::Head: Send,
     A::Reply: Send,
     R: ConnectionRuntime,

@@ -46,6 +46,11 @@ pub trait RequestService: Drop {
         ensures { IfOk result Self.Reply.can_poll };
 }
 
+/// A service that several threads share.
+pub trait SharedService: RequestService + Send + Sync {}
+
+impl<A: RequestService + Send + Sync> SharedService for A {}
+
 /// What all connections share.
 #[derive(Drop)]
 pub struct ServerContext<A, C> {

@@ -7,7 +7,7 @@ use crate::http_service::HttpService;
 use crate::keepalive::{ReactorKeepalive, ReactorNudge, keepalive_pair};
 use crate::runtime::ConnectionRuntime;
 use crate::server_conn::ServerConn;
-use crate::server_context::{RequestService, ServerContext};
+use crate::server_context::{ServerContext, SharedService};
 use crate::shutdown::GracePeriod;
 use crate::slots::ConnSlot;
 use crate::timed_io::TimedIo;
@@ -214,7 +214,7 @@ where
     R: ConnectionRuntime,
     S: Stream<Item = I>,
     I: AsyncRead + AsyncWrite + Send,
-    A: RequestService + Send + Sync,
+    A: SharedService,
     A::Head: Send,
     A::Reply: Send,
     T: Timer + Send,
