@@ -110,7 +110,7 @@ impl<K: HallName, N: LogName, L: Log, S: Space> DurableHall<K, N, L, S> {
     ) -> Result<ResponseAfterSync<N, L, S>, NoResponse>
         ensures { IfOk result (λ s. Waits (SaysTold (λ reply. reply ≡ who_reply (badges_view self.now.badges) client)) s.reply) }
     {
-        let stamp = self.current_position();
+        let stamp = self.nothing.again();
         let answer = or_no_memory(whoami(alloc, &self.badges, client));
         self.reply(alloc, AnswerAtPosition { answer, stamp })
     }
