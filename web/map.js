@@ -1,7 +1,7 @@
 // The map: it pans and zooms by mouse, touch and keyboard, tells what is somewhere, and lets the author draw a place.
 
 import { $, el, keepPlace, link, say, terms } from "./dom.js";
-import { E7, boxOf, inWhole, unmercator, within } from "./geometry.js";
+import { E7, boxOf, inWhole, mercator, unmercator, within } from "./geometry.js";
 import * as layers from "./layers.js";
 import { ago, digitsOf, isSame, plain, words } from "./rules.js";
 import { isAuthor, now, operatorName, shownFleet, standingOf, state } from "./state.js";
@@ -46,14 +46,29 @@ function frame() {
   layers.drawScale(ctx, view);
 }
 
-/** Shows these places (by the digits of their identifiers), or all, or the fleet where there is no place. */
+/** Shows what the settings say, where they do. */
+function showFirst() {
+  const first = state.settings.view;
+  if (!first) return;
+  [view.x, view.y] = mercator(first.lng, first.lat);
+  view.scale = NEAREST * 2 ** first.zoom;
+  draw();
+}
+
+/**
+ * Shows these places (by the digits of their identifiers), or all, or the fleet where there is no place, or what the settings say
+ * where there is no vehicle either.
+ */
 export function fit(ids) {
   let boxes = [...state.places, ...state.draftPlaces].filter((it) => !ids || ids.includes(digitsOf(it.geography_id)))
     .map((it) => it.box).filter((box) => box[0] < box[2]);
   if (!boxes.length && state.fleet?.count) {
     boxes = [boxOf(Array.from(state.fleet.x.subarray(0, 5000), (x, row) => [x, state.fleet.y[row]]))];
   }
-  if (!boxes.length) return;
+  if (!boxes.length) {
+    if (!ids) showFirst();
+    return;
+  }
   const [west, north, east, south] = boxOf(boxes.flatMap((box) => [[box[0], box[1]], [box[2], box[3]]]));
   view.x = (west + east) / 2;
   view.y = (north + south) / 2;

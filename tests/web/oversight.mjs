@@ -34,7 +34,7 @@ const choose = (page, id, text) => page.run((list, wanted) => {
 /** Each row of the table: operator, rule or policy, how it stands. */
 const table = (page) => page.run(() => [...document.querySelectorAll("#standingtable tbody tr")].map((row) => {
   const [policy, stands] = row.querySelectorAll("td"), name = policy.querySelector(".small") || policy.querySelector("button");
-  return [row.querySelector("th").textContent, name.textContent, stands.textContent.replace(/^\S /, "")].join(" | ");
+  return [row.querySelector("th").textContent, name.textContent, stands.querySelector(".tag").textContent.replace(/^\S /, "")].join(" | ");
 }));
 
 /** The same by what each operator is answered itself. */
@@ -222,6 +222,22 @@ export async function whole(browser, program, { is, ok }) {
   await city.close();
 }
 
+/** A rule that was broken at the first look, and one that is seen to break; and where the past is told. */
+async function since(page, city, [lng, lat], { is, ok }) {
+  const told_ = (text) => page.run((it) => [...document.querySelectorAll("#standingtable tbody tr")]
+    .filter((row) => row.className === "bad" && row.textContent.includes(it)).map((row) => row.querySelectorAll("td")[1].textContent).join(), text);
+  ok("a rule that was broken at the first look", /^✗ brokenbefore \d/.test(await told_("for more than 72 hours")), await told_("for more than 72 hours"));
+  is("one that is kept has no time", await page.run(() =>
+    [...document.querySelectorAll("#standingtable tr:not(.bad)")].filter((it) => /(since|before) \d/.test(it.textContent)).length), 0);
+  for (let n = 2; n < 11; n++) {
+    await city.sure("scoot", "POST", "/fleet/events", { device_id: device(n), vehicle_type: "scooter_standing", vehicle_state: "available",
+      timestamp: Date.now() - 1000, location: { lat, lng } });
+  }
+  await told(page, "#standingtable", /151 of at most 150/);
+  ok("a rule that is seen to break", /^✗ brokensince \d/.test(await told_("151 of at most 150")), await told_("151 of at most 150"));
+  ok("where the past is told", /ruffletuff report/.test(await page.text("#standingview")));
+}
+
 /** A round brings what has changed, the focus stays, and nothing is asked for while nobody looks. */
 async function renewal(page, city, { is, ok }) {
   await inState(page, (it) => { it.settings.refresh_seconds = 1; });
@@ -237,6 +253,7 @@ async function renewal(page, city, { is, ok }) {
     timestamp: Date.now() - 1000, location: { lat, lng } });
   ok("a round tells what has changed", /142 of at most 150/.test(await told(page, "#standingtable", /142 of at most 150/)));
   ok("and the focus is where it was", await page.run(() => /142 of/.test(document.activeElement.closest("tr")?.textContent || "")));
+  await since(page, city, [lng, lat], { is, ok });
   await page.run(() => Object.defineProperty(document, "visibilityState", { value: "hidden", configurable: true }));
   // What was being read is read to its end; a round would come each second.
   let before = -1;

@@ -168,6 +168,21 @@ is("the broken ones first", said(rules.inOrder(stood, "broken", (id) => id)),
   "B0 two violated; A1 one violated; B0 one ok; A1 two ok; B0 three inactive");
 is("by operator", said(rules.inOrder(stood, "operator", (id) => id)), "A1 one violated; A1 two ok; B0 two violated; B0 one ok; B0 three inactive");
 is("by policy", said(rules.inOrder(stood, "policy", (id) => id)), "B0 two violated; A1 one violated; B0 one ok; A1 two ok; B0 three inactive");
+const lookedAt = (...looks) => {
+  const rowsOf = (status) => (status ? rules.standingRows([{ id: "A", compliance: reports(["p", status]) }], [ruled("p", "one")]) : []);
+  const seen = looks.reduce((before, [at, status]) => rules.remember(before, rowsOf(status), at, 90), new Map()).get("A p/0");
+  return `${seen.hasBegun ? "since" : "before"} ${seen.from}`;
+};
+is("broken when it was first seen", lookedAt([100, "violated"], [130, "violated"]), "before 100");
+is("seen to break", lookedAt([100, "ok"], [130, "violated"], [160, "violated"], [160, "violated"]), "since 130");
+is("seen to break again", lookedAt([100, "violated"], [130, "ok"], [160, "violated"]), "since 160");
+is("nobody looked for as long as may be", lookedAt([100, "ok"], [190, "violated"]), "since 190");
+is("nor for longer, so that nobody saw it break", lookedAt([100, "ok"], [191, "violated"]), "before 191");
+is("and nobody saw that it stayed broken", lookedAt([100, "ok"], [130, "violated"], [221, "violated"]), "before 221");
+is("a rule that wasn't told of meanwhile", lookedAt([100, "ok"], [130, null], [160, "violated"]), "before 160");
+const east = new Clock("+02:00"), dayTime = new Intl.DateTimeFormat(undefined, { timeZone: "UTC", hour: "2-digit", minute: "2-digit" });
+is("a moment of the same local day", east.since(Date.UTC(2026, 0, 4, 22, 5), Date.UTC(2026, 0, 5, 21, 59)), dayTime.format(Date.UTC(2026, 0, 5, 0, 5)));
+is("a moment of another one", east.since(Date.UTC(2026, 0, 4, 21, 59), Date.UTC(2026, 0, 4, 22, 5)), east.when(Date.UTC(2026, 0, 4, 21, 59)));
 is("CSV by RFC 4180, without a formula", csv([["a", 'b "c"', "d,e", "f\ng"], ["=1+1", "+1", "-1", "@x", "\tx", "'x"], [-1, null, undefined, 0]]),
   "a,\"b \"\"c\"\"\",\"d,e\",\"f\ng\"\r\n'=1+1,'+1,'-1,'@x,'\tx,'x\r\n-1,,,0\r\n");
 

@@ -16,7 +16,7 @@ const { digitsOf, isSame, number, plain, words } = rules;
 const TAGS = { ok: ["good", "✓ kept"], violated: ["bad", "✗ broken"], inactive: ["", "– not open now"],
   not_evaluated: ["", "not judged"] };
 const TONES = { force: "good", soon: "soon", over: "" };
-const TOLD = 100, LONG = 400, FIRST_ROWS = 25, FIRST_ROWS_NARROW = 8, MORE_ROWS = 200;
+const TOLD = 100, LONG = 400, ROUNDS_MISSED = 3, LEAST_MISSED = 60_000, FIRST_ROWS = 25, FIRST_ROWS_NARROW = 8, MORE_ROWS = 200;
 
 /** What the author does with a policy; page.js sets it. */
 export const actions = { replace: null, withdraw: null };
@@ -201,11 +201,13 @@ const authorActions = (policy) => el("div", { className: "actions" },
 // How many rows are shown, and what the table says.
 let most = 0, shownRows = "";
 
-/** The rows for now, and how many operators break and keep each rule. */
+/** The rows for now, since when they are seen so, and how many operators break and keep each rule. */
 function takeRows() {
-  const operators = isAuthor() && state.moment === null && state.standings?.operators || [];
+  const isTold = isAuthor() && state.moment === null && state.standings !== null;
   if (!state.me?.operators?.some((it) => it.id === state.shownOperator)) state.shownOperator = null;
-  rows = rules.standingRows(operators, state.policies);
+  rows = isTold ? rules.standingRows(state.standings.operators, state.policies) : [];
+  const longest = Math.max(LEAST_MISSED, ROUNDS_MISSED * state.settings.refresh_seconds * 1000);
+  if (isTold) state.seen = rules.remember(state.seen, rows, state.standings.at, longest);
   tallies = new Map();
   for (const { policy, index, verdict } of rows) {
     const key = `${policy.policy_id}/${index}`, tally = tallies.get(key) || {};
@@ -223,6 +225,13 @@ function chosenRows() {
 
 const standingTag = (status) => TAGS[status] || ["", plain(status)];
 
+/** Since when a rule is broken, as far as this page has seen; empty where it isn't. */
+function brokenSince(row) {
+  if (row.verdict.status !== "violated") return "";
+  const { from, hasBegun } = state.seen.get(rules.rowKey(row));
+  return `${hasBegun ? "since" : "before"} ${state.clock.since(from, state.standings.at)}`;
+}
+
 // A narrow page shows rows as blocks, so the table's parts say what they are.
 const cell = (...inside) => el("td", { role: "cell" }, inside);
 
@@ -231,10 +240,11 @@ function standingRow(row, open) {
   const [tone, text] = standingTag(verdict.status), measure = rules.measured(rule, verdict);
   const name = rule.name && rule.name !== policy.name ? rule.name : null;
   const shown = { "aria-pressed": String(state.shownRule === key), "aria-label": `Show on the map: ${policy.name} ${name || ""}` };
+  const since = brokenSince(row);
   return el("tr", { role: "row", "data-key": `stands ${id} ${key}`, className: verdict.status === "violated" ? "bad" : "" },
     el("th", { role: "rowheader", scope: "row" }, operatorName(id)),
     cell(link(policy.name, () => showRule(rule, key), shown), name && el("div", { className: "small" }, name)),
-    cell(el("span", { className: `tag ${tone}` }, text)),
+    cell(el("span", { className: `tag ${tone}` }, text), since && el("div", { className: "small" }, since)),
     cell(devices(verdict, `stands ${id} ${key}`, open, { owner, title: measure }) || measure));
 }
 
@@ -306,7 +316,8 @@ function offerChoices() {
 
 /** Shows the table, made anew only where it says something else than before. */
 function renderTable() {
-  const chosen = chosenRows(), told = chosen.slice(0, most).map((it) => [it.id, it.policy.policy_id, it.index, it.verdict]);
+  const chosen = chosenRows();
+  const told = chosen.slice(0, most).map((it) => [it.id, it.policy.policy_id, it.index, it.verdict, brokenSince(it)]);
   const said = JSON.stringify([told, chosen.length, rows.length, state.shownRule, oversight(), state.me.operators]);
   if (said === shownRows) return;
   const place = keepPlace($("standing"), "#standingtable");

@@ -252,7 +252,7 @@ function clear() {
   stopReading();
   turn++;
   Object.assign(state, { me: null, policies: [], places: [], draftPlaces: [], drafts: [], revision: 0, readAt: 0, judgedAt: 0,
-    reports: new Map(), standings: null, fleet: null, moment: null, shownRule: null, shownPlaces: null,
+    reports: new Map(), standings: null, seen: new Map(), fleet: null, moment: null, shownRule: null, shownPlaces: null,
     shownOperator: null });
 }
 
@@ -416,6 +416,7 @@ async function load() {
   state.settings = await server.settings(SETTINGS);
   $("city").textContent = document.title = state.settings.city;
   $("attribution").textContent = state.settings.tiles ? state.settings.attribution : "";
+  map.fitFirst();
   // Somebody may have signed in before the settings came.
   if (server.hasToken() && !signings) await signIn();
   else if (!signings) await lookAround();

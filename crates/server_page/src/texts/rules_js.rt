@@ -270,6 +270,24 @@ export function inOrder(rows, by, nameOf) {
     .sort((one, other) => one.text.localeCompare(other.text) || one.rank - other.rank).map((it) => it.row);
 }
 
+/** What tells an operator's row for a rule from every other. */
+export const rowKey = ({ id, policy, index }) => `${id} ${policy.policy_id}/${index}`;
+
+/**
+ * What is remembered of rows that were told at a moment, by what was remembered before: of each its status, since when it was
+ * seen so, whether that was seen to begin, and when it was last seen. Where nobody looked for longer than so many milliseconds,
+ * what happened meanwhile isn't known, and the row is seen for the first time again.
+ */
+export function remember(before, rows, at, longest) {
+  const seen = new Map();
+  for (const row of rows) {
+    const { status } = row.verdict, known = before.get(rowKey(row)), last = known && at - known.last <= longest ? known : null;
+    const from = last?.status === status ? last : { from: at, hasBegun: last !== null };
+    seen.set(rowKey(row), { status, from: from.from, hasBegun: from.hasBegun, last: at });
+  }
+  return seen;
+}
+
 // --- Likely mistakes ----------------------------------------------------------------------------------------------------
 
 /** What is likely a mistake in a rule, in sentences; `kinds` are those of the vehicles that the page knows. */

@@ -8,7 +8,7 @@ import { digitsOf, isSame, standing } from "./rules.js";
 import { memory } from "./dom.js";
 
 export const SETTINGS = { city: "Rules for shared vehicles", tiles: "", attribution: "", zone: "", operators: {},
-  refresh_seconds: 30 };
+  refresh_seconds: 30, view: null };
 
 export const state = {
   settings: SETTINGS,
@@ -26,6 +26,7 @@ export const state = {
   judgedAt: 0,
   reports: new Map(), // of the server's compliance: verdicts by the digits of policies and rules
   standings: null, // {at, operators: [{id, compliance}, ..]}, which the author is told
+  seen: new Map(), // since when each row of these is seen as it stands, which is forgotten with the page
   fleet: null, // an operator's vehicles; the author's are all operators', those of each behind those of the one before it
   fleetAt: 0,
   moment: null, // null is now

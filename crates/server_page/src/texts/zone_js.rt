@@ -6,7 +6,7 @@ pub const ZONE_JS: &str =
 
 const NAME = "(?:<[^>]+>|[A-Za-z]{3,15})", OFFSET = "([+-]?\\d{1,3}(?::\\d\\d){0,2})";
 const RULE = new RegExp(`^${NAME}${OFFSET}(?:${NAME}${OFFSET}?,([^,/]+)(?:/${OFFSET})?,([^,/]+)(?:/${OFFSET})?)?$`);
-const HOUR = 3600_000, MINUTE = 60_000;
+const DAY = 86_400_000, HOUR = 3600_000, MINUTE = 60_000;
 
 /** Hours, minutes and seconds with a sign, in milliseconds. */
 function signed(text) {
@@ -56,6 +56,8 @@ const LONG = { timeZone: "UTC", weekday: "short", day: "numeric", month: "short"
 const format = new Intl.DateTimeFormat(undefined, LONG);
 const seconds = new Intl.DateTimeFormat(undefined, { timeZone: "UTC", hour: "2-digit", minute: "2-digit", second: "2-digit" });
 
+const minutes = new Intl.DateTimeFormat(undefined, { timeZone: "UTC", hour: "2-digit", minute: "2-digit" });
+
 /** How far the browser's own zone is from UTC. */
 const ownOffset = (t) => -new Date(t).getTimezoneOffset() * MINUTE;
 
@@ -71,6 +73,12 @@ export class Clock {
   /** The moment in words, in local time. */
   when(t) {
     return format.format(t + this.offset(t));
+  }
+
+  /** The time of day of a moment to the minute, in local time; its day too, where that is another one than that of `t`. */
+  since(moment, t) {
+    const local = (it) => it + this.offset(it), day = (it) => Math.floor(local(it) / DAY);
+    return day(moment) === day(t) ? minutes.format(local(moment)) : this.when(moment);
   }
 
   /** The time of day of the moment to the second, in local time. */
