@@ -8,8 +8,8 @@ supersede others, are withdrawn, begin and end, two operators that report, repea
 verdicts.csv is worked out here another way: into the script that `ruffletuff audit` prints a question for compliance is put at each
 moment, mds_replay answers, and the answer is read by Python. summary.csv is worked out a second time from verdicts.csv, and local times
 from the two nights. A thinned journal with the one before it says the same as the whole one. Names that a spreadsheet or a browser would
-take for more than names, journals that are refused, and reports that aren't written whole are tried too. Prints what differs, and last
-'N passed, M failed'; ends with 1 where one failed.
+take for more than names, operators that are many, journals that are refused, and reports that aren't written whole are tried too. Prints
+what differs, and last 'N passed, M failed'; ends with 1 where one failed.
 """
 
 import argparse
@@ -639,8 +639,77 @@ def nothing_is_left_of_a_part(program, replay):
             yield "what a kill left is in the report"
 
 
+# --- Side by side --------------------------------------------------------------------------------------------------
+
+
+class Many(Journal):
+    """A city of nine operators, of which each one has as many vehicles in a place that is to have none as its number says, from 0."""
+
+    OPERATORS = 9
+
+    def __init__(self, program, room):
+        self.ids = [identifier(9, 0xD0 + it) for it in range(self.OPERATORS)]
+        operators = [{"id": it, "limit": 64, "token": f"token{number}", "name": f"No. {number}"} for number, it in enumerate(self.ids)]
+        texts = [records.head([(it, 64) for it in self.ids])]
+        asked = list(hostile_city(("cap", "rule")))
+        texts += [self.text(at, method, None, target, body) for at, token, method, target, body in asked if token == AUTHOR]
+        at, _, _, _, first = asked[-1]
+        for number, whose in enumerate(self.ids):
+            for vehicle in range(number):
+                body = first | {"device_id": identifier(4, 100 * number + vehicle)}
+                texts.append(self.text(at, "POST", whose, "/fleet/events", body))
+        self.texts = texts
+        super().__init__(program, room, {"author": AUTHOR, "operators": operators, "zone": NEW_YORK}, texts)
+
+    def text(self, at, method, whose, target, body=None):
+        """The payload of an entry."""
+        return records.entry(at, method, whose, target.encode(), b"" if body is None else json.dumps(body).encode())
+
+
+def on_one_processor():
+    """For a program that is started: it runs on one processor alone."""
+    os.sched_setaffinity(0, {min(os.sched_getaffinity(0))})
+
+
+def operators_stand_in_order(program, replay):
+    """However many operators are worked out at once, the files have them in the configuration's order, and are those of one processor; each
+    one that is through is told in turn. Where several journals can't be answered again for operators, the first of these is told."""
+    with tempfile.TemporaryDirectory(prefix="report-") as room:
+        city = Many(program, room)
+        hour = SUMMER, SUMMER + HOUR, "--every", str(EVERY)
+        told = [f"ruffletuff: {it} of {city.OPERATORS} operators are through\n" for it in range(1, city.OPERATORS + 1)]
+        status, out, err = city.report(*hour)
+        if (status, out, err.decode()) != (0, b"9 operators, 2 moments, 18 samples\n", "".join(told)):
+            yield f"report ends with {status, out, err}"
+        files = city.files()
+        found = [(it[2], it[3], it[9], it[10]) for it in rows_of(files["verdicts.csv"], COLUMNS)]
+        wanted = [(whose, f"No. {it}", "violated" if it else "ok", str(it)) for it, whose in enumerate(city.ids) for _ in range(2)]
+        yield from differing("verdicts.csv", found, wanted)
+        yield from differing("summary.csv", [it[0] for it in rows_of(files["summary.csv"], SUMMED)], city.ids)
+        places = [files["report.html"].find(it.encode()) for it in city.ids]
+        if places != sorted(places) or places[0] < 0:
+            yield f"on the page operators stand at {places}"
+        for name in NAMES:
+            os.remove(os.path.join(city.out, name))
+        if city.reported(*hour, preexec_fn=on_one_processor) != files:
+            yield "on one processor it says other things"
+        # A vehicle that isn't there can't be removed: operators 7 and 2 ask for it, in this order.
+        missing = f"/fleet/vehicles/{identifier(4, 9999)}"
+        bad = [city.text(SUMMER, "DELETE", city.ids[it], missing) for it in (7, 2)]
+        city.keep(records.written(city.texts + bad))
+        said = f"{''.join(told[:2])}{UNFIT}{city.folder}\nentry {len(city.texts)} of those that are answered again"
+        yield from is_refused(city, 6, said)
+
+
 OF_A_CITY = (says_what_was_answered, times_may_be_local, of_one_operator, of_thinned_journals, is_the_same_again)
-FURTHER = (hostile_names, arguments_are_refused, folders_are_refused, torn_journals_are_told, nothing_is_left_of_a_part)
+FURTHER = (
+    hostile_names,
+    operators_stand_in_order,
+    arguments_are_refused,
+    folders_are_refused,
+    torn_journals_are_told,
+    nothing_is_left_of_a_part,
+)
 
 
 def main():

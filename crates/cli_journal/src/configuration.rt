@@ -2,6 +2,7 @@
 ghost use Rattle.std.specs.Prelude.{◌≡◌, ◌≤◌, length, IfOk, Ok};
 ghost use Rattle.mds_script.specs.declared.gather.TheConstants.{LINE_LIMIT};
 ghost use Rattle.mds_request.specs.Configuration.{configuration, read_configuration};
+ghost use Rattle.server_app.specs.OperatorNames.{badges_view, read_badges};
 
 use crate::config_file::ConfigFile;
 use crate::exit_cause::ExitCause;
@@ -9,6 +10,7 @@ use mds_config_error::Detail;
 use mds_request::{Config, ConfigFault};
 use mds_script::LINE_LIMIT;
 use mds_text::TextFault;
+use server_app::OperatorNames;
 use std::alloc::{AllocGlobal, Global};
 use std::fs::{File, Files};
 use std::io::{Eprint, ErrorKind, Read};
@@ -94,5 +96,19 @@ pub fn configuration_in(alloc: Global, text: &[u8]) -> Result<Config, ExitCause>
             Err(ExitCause::NoMemory)
         }
         Err(_) => Err(ExitCause::Misconfigured(Detail::of(alloc, text))),
+    }
+}
+
+/// Reads the operators' names for people in a configuration's text: see `server_app::laws::configurations_have_names`.
+///
+/// # Errors
+///
+/// `NoMemory`.
+pub fn operator_names_in(alloc: Global, text: &[u8]) -> Result<OperatorNames, ExitCause>
+    ensures { IfOk result (λ badges. read_badges text.now ≡ Ok (badges_view badges)) }
+{
+    match OperatorNames::read(alloc, text) {
+        Ok(badges) => Ok(badges),
+        Err(_) => Err(ExitCause::NoMemory),
     }
 }

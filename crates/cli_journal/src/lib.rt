@@ -13,7 +13,9 @@ mod script;
 
 pub use compaction::{check_archive_of, clear, compact, journal_length, moment};
 pub use config_file::ConfigFile;
-pub use configuration::{configuration_in, configuration_text, read_text_and_report};
+pub use configuration::{
+    configuration_in, configuration_text, operator_names_in, read_text_and_report,
+};
 pub use exit_cause::ExitCause;
 pub use integrity::{check, check_startable};
 pub use messages::{report_exit, report_usage};

@@ -1,5 +1,6 @@
 -- Groups of samples of the same rule and day.
-use Rattle.std.proofs.Common.{◌≡◌, ℕ, ◌+◌, ◌<◌, List, [], ◌∷◌, ◌++◌, Bool, true, false, if◌then◌else◌, take, drop, length, get_or, refl, sym, ap, ◌∙◌, append_assoc, arith}
+use Rattle.std.proofs.Common.{◌≡◌, ℕ, ◌+◌, ◌<◌, List, [], ◌∷◌, ◌++◌, Bool, true, false, if◌then◌else◌, take, drop, length, get_or}
+use Rattle.std.proofs.Common.{refl, sym, ap, ◌∙◌, append_assoc, arith}
 use Rattle.std.proofs.lemmas.List.{take_more, drop_all, at_drop_more}
 use Rattle.cli_report.specs.Days.{grouped, is_beside, joined}
 use Rattle.cli_report.specs.declared.days.DaySample.{DaySample}
@@ -21,7 +22,8 @@ glued_both xs ys (group ∷ groups) = ap (λ g. g ∷ groups) (sym (append_assoc
 abbrev Begins : DaySample → List (List DaySample) → Type 0
 Begins s groups = (group : List DaySample) × (others : List (List DaySample)) × (groups ≡ (s ∷ group) ∷ others)
 
-chosen : (s next : DaySample) (group : List DaySample) (groups : List (List DaySample)) (same : Bool) → Begins s (if same then (s ∷ next ∷ group) ∷ groups else (s ∷ []) ∷ (next ∷ group) ∷ groups)
+chosen : (s next : DaySample) (group : List DaySample) (groups : List (List DaySample)) (same : Bool)
+    → Begins s (if same then (s ∷ next ∷ group) ∷ groups else (s ∷ []) ∷ (next ∷ group) ∷ groups)
 chosen s next group groups true = (next ∷ group, groups, refl)
 chosen s next group groups false = ([], (next ∷ group) ∷ groups, refl)
 
@@ -57,7 +59,8 @@ one_left xs i a within is = at_drop_more (λ ys. ys) xs i a within ∙ ap (λ x.
 one_taken : (xs : List DaySample) (i : ℕ) (a : DaySample) → i < length xs → a ≡ get_or xs i a → take i xs ++ a ∷ [] ≡ take (i + 1) xs
 one_taken xs i a within is = ap (λ x. take i xs ++ x ∷ []) is ∙ sym (take_more xs i a within)
 
-pub one_more : (xs : List DaySample) (i : ℕ) (a b : DaySample) → i + 1 < length xs → a ≡ get_or xs i a → b ≡ get_or xs (i + 1) b → is_beside a b ≡ true → AreBeside xs i → AreBeside xs (i + 1)
+pub one_more : (xs : List DaySample) (i : ℕ) (a b : DaySample) → i + 1 < length xs → a ≡ get_or xs i a → b ≡ get_or xs (i + 1) b
+    → is_beside a b ≡ true → AreBeside xs i → AreBeside xs (i + 1)
 one_more xs i a b within is_a is_b same so_far =
     let rest = drop (i + 1) xs in
     let after : rest ≡ b ∷ drop (i + 1 + 1) xs = one_left xs (i + 1) b within is_b in
@@ -69,7 +72,8 @@ one_more xs i a b within is_a is_b same so_far =
     ∙ ap (λ ys. glued ys (grouped rest)) (one_taken xs i a (omega (arith, within)) is_a)
 
 -- the group ends in front of another rule or day
-pub ends : (xs : List DaySample) (i : ℕ) (a b : DaySample) → i + 1 < length xs → a ≡ get_or xs i a → b ≡ get_or xs (i + 1) b → is_beside a b ≡ false → AreBeside xs i → grouped xs ≡ take (i + 1) xs ∷ grouped (drop (i + 1) xs)
+pub ends : (xs : List DaySample) (i : ℕ) (a b : DaySample) → i + 1 < length xs → a ≡ get_or xs i a → b ≡ get_or xs (i + 1) b → is_beside a b ≡ false
+    → AreBeside xs i → grouped xs ≡ take (i + 1) xs ∷ grouped (drop (i + 1) xs)
 ends xs i a b within is_a is_b other so_far =
     let rest = drop (i + 1) xs in
     let after : rest ≡ b ∷ drop (i + 1 + 1) xs = one_left xs (i + 1) b within is_b in
@@ -83,7 +87,8 @@ alone : (a : DaySample) (rest : List DaySample) → rest ≡ [] → grouped (a �
 alone a rest none = ap (λ ys. grouped (a ∷ ys)) none ∙ ap (λ ys. (a ∷ []) ∷ grouped ys) (sym none)
 
 -- or behind the last sample
-last_of : (xs : List DaySample) (i : ℕ) (d : DaySample) → i + 1 ≡ length xs → AreBeside xs i → grouped xs ≡ take (i + 1) xs ∷ grouped (drop (i + 1) xs)
+last_of : (xs : List DaySample) (i : ℕ) (d : DaySample) → i + 1 ≡ length xs → AreBeside xs i
+    → grouped xs ≡ take (i + 1) xs ∷ grouped (drop (i + 1) xs)
 last_of xs i d end so_far =
     let rest = drop (i + 1) xs in
     let a = get_or xs i d in
@@ -92,7 +97,8 @@ last_of xs i d end so_far =
     ∙ ap (glued (take i xs)) (alone a rest (drop_all (i + 1) xs (omega (arith, end))))
     ∙ ap (λ ys. ys ∷ grouped rest) (sym (take_more xs i d (omega (arith, end))))
 
-pub all_beside : (xs : List DaySample) (i : ℕ) → 0 < length xs → i + 1 ≡ length xs → AreBeside xs i → grouped xs ≡ take (length xs) xs ∷ grouped (drop (length xs) xs)
+pub all_beside : (xs : List DaySample) (i : ℕ) → 0 < length xs → i + 1 ≡ length xs → AreBeside xs i
+    → grouped xs ≡ take (length xs) xs ∷ grouped (drop (length xs) xs)
 all_beside [] i some end so_far = grind arith
 all_beside (x ∷ xs) i some end so_far =
     last_of (x ∷ xs) i x end so_far ∙ ap (λ n. take n (x ∷ xs) ∷ grouped (drop n (x ∷ xs))) end

@@ -1,14 +1,17 @@
 //! The rules of an operator, the most often violated one first.
-ghost use Rattle.std.specs.Prelude.{◌<◌, ◌≤◌, length};
+ghost use Rattle.std.specs.Prelude.{◌<◌, ◌≤◌, length, OnOk};
+ghost use Rattle.cli_report.specs.Ranks.{IsRanked};
 
 use crate::days::{DaySample, front_of, rest_of, violations};
 use std::alloc::{AllocError, Global};
+use std::cmp::Reverse;
 
-/// Where the samples of a rule stand among samples in order. Rules are ordered by rank, then by their places.
+/// Where the samples of a rule stand among samples in order. Rules are ordered by how many of their samples are violated,
+/// the most first, then by their places.
 #[derive(Clone, Copy, PartialEq, Eq, PartialOrd, Ord)]
 pub(crate) struct RuleSpan {
-    /// The less, the more samples are violated.
-    rank: usize,
+    /// How many samples are violated.
+    violated: Reverse<usize>,
     /// The index of the first sample.
     pub(crate) start: usize,
     /// The index behind the last sample.
@@ -34,6 +37,34 @@ fn count_of_rule(samples: &[DaySample]) -> usize
     samples.len()
 }
 
+/// The rules of samples in order, in their order.
+fn rules_in(alloc: Global, ordered: &[DaySample]) -> Result<Vec<RuleSpan>, AllocError> {
+    let mut rules = Vec::new(alloc);
+    let mut start = 0usize;
+    let mut left = ordered;
+    'rules: while !left.is_empty() {
+        let count = count_of_rule(left);
+        let rest = rest_of(left, count);
+        let violated = violations(alloc, front_of(left, count))?.len();
+        let end = start.saturating_add(count);
+        rules.push(RuleSpan {
+            violated: Reverse(violated),
+            start,
+            end,
+        })?;
+        start = end;
+        left = rest;
+    }
+    Ok(rules)
+}
+
+/// Orders rules, the most often violated one first; of those that are as often, the one that stands first.
+fn rank(rules: &mut Vec<RuleSpan>) -> Result<(), AllocError>
+    ensures { OnOk result (IsRanked rules.old.items rules.new.items) }
+{
+    rules.sort()
+}
+
 /// The rules of samples in order, the most often violated one first.
 ///
 /// # Errors
@@ -43,19 +74,7 @@ pub(crate) fn ranked_rules(
     alloc: Global,
     ordered: &[DaySample],
 ) -> Result<Vec<RuleSpan>, AllocError> {
-    let mut rules = Vec::new(alloc);
-    let mut start = 0usize;
-    let mut left = ordered;
-    'rules: while !left.is_empty() {
-        let count = count_of_rule(left);
-        let rest = rest_of(left, count);
-        let violated = violations(alloc, front_of(left, count))?.len();
-        let rank = ordered.len().saturating_sub(violated);
-        let end = start.saturating_add(count);
-        rules.push(RuleSpan { rank, start, end })?;
-        start = end;
-        left = rest;
-    }
-    rules.sort()?;
+    let mut rules = rules_in(alloc, ordered)?;
+    rank(&mut rules)?;
     Ok(rules)
 }

@@ -88,6 +88,29 @@ pub fn suits(alloc: Global, config: &Config, head: &[u8], dropped: &[Id]) -> Res
     }
 }
 
+/// Adds the entry of a payload, that of the record with this number.
+///
+/// # Errors
+///
+/// The payload is no entry of a known version, or out of memory.
+fn push_entry<'a>(
+    alloc: Global,
+    entries: &mut Vec<JournalEntry<'a>>,
+    number: usize,
+    text: &'a [u8],
+) -> Result<(), FolderFault>
+    ensures { OnOk result (map (λ e. entry_text (entry_of e)) entries.new.items
+        ≡ map (λ e. entry_text (entry_of e)) entries.old.items ++ text.now ∷ []) }
+{
+    match read_entry(alloc, text) {
+        Ok(entry) => match entries.push(entry) {
+            Ok(()) => Ok(()),
+            Err(_) => Err(FolderFault::NoMemory),
+        },
+        Err(fault) => Err(entry_fault(number, fault)),
+    }
+}
+
 /// Decodes payloads to entries, in their order. They borrow from the payloads, of which the first is the record with
 /// the number `first`, counted from 0.
 ///
@@ -103,14 +126,26 @@ pub fn entries_in(
 {
     let mut entries = Vec::new(alloc);
     for (number, text) in texts.iter().enumerate() {
-        match read_entry(alloc, text) {
-            Ok(entry) => {
-                if entries.push(entry).is_err() {
-                    return Err(FolderFault::NoMemory);
-                }
-            }
-            Err(fault) => return Err(entry_fault(first.saturating_add(number), fault)),
-        }
+        push_entry(alloc, &mut entries, first.saturating_add(number), text)?;
+    }
+    Ok(entries)
+}
+
+/// The same for payloads that lie among a journal's bytes.
+///
+/// # Errors
+///
+/// As `entries_in`.
+pub fn lent_entries_in<'a>(
+    alloc: Global,
+    first: usize,
+    texts: &[&'a [u8]],
+) -> Result<Vec<JournalEntry<'a>>, FolderFault>
+    ensures { IfOk result (λ entries. map (λ e. entry_text (entry_of e)) entries.items ≡ map (λ t. t.now) texts.now) }
+{
+    let mut entries = Vec::with_capacity(alloc, texts.len())?;
+    for (number, text) in texts.iter().enumerate() {
+        push_entry(alloc, &mut entries, first.saturating_add(number), text)?;
     }
     Ok(entries)
 }

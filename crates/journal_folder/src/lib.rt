@@ -26,6 +26,6 @@ pub use fault::{Damage, FolderFault};
 pub use files::{create_locked, lock_file};
 pub use folder::{Folder, journal_bytes, open_folder, sync_names};
 pub use folders::Folders;
-pub use journal::{begin_journal, entries_in, suits};
+pub use journal::{begin_journal, entries_in, lent_entries_in, suits};
 pub use script::{push_blanked, request_line};
-pub use survey::{Survey, damage_of, survey_of};
+pub use survey::{LentSurvey, Survey, damage_of, lent_survey_of, survey_of};

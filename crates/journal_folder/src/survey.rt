@@ -20,17 +20,57 @@ pub struct Survey {
     pub ending: JournalEnding,
 }
 
+/// What a journal's bytes are, with the payloads where they lie among them.
+#[derive(Debug, Drop)]
+pub struct LentSurvey<'a> {
+    /// The payloads of its records, without the marks.
+    pub texts: Vec<&'a [u8]>,
+    /// How many bytes its whole records take.
+    pub whole: u64,
+    /// How it ends after them.
+    pub ending: JournalEnding,
+}
+
 /// The payloads of the records that are no marks.
-fn plain_texts(alloc: Global, records: &[Record<'_>]) -> Result<Vec<Vec<u8>>, AllocError>
-    ensures { IfOk result (λ texts. map (λ v. v.items) texts.items ≡ listed (map (λ x. x.text.now) records.now)) }
+fn plain_texts<'a>(alloc: Global, records: &[Record<'a>]) -> Result<Vec<&'a [u8]>, AllocError>
+    ensures { IfOk result (λ texts. map (λ t. t.now) texts.items ≡ listed (map (λ x. x.text.now) records.now)) }
 {
     let mut texts = Vec::new(alloc);
     for record in records {
         if is_plain(record.text) {
-            texts.push(Vec::from_slice(alloc, record.text)?)?;
+            texts.push(record.text)?;
         }
     }
     Ok(texts)
+}
+
+/// Copies of payloads.
+fn copies_of(alloc: Global, lent: &[&[u8]]) -> Result<Vec<Vec<u8>>, AllocError>
+    ensures { IfOk result (λ texts. map (λ v. v.items) texts.items ≡ map (λ t. t.now) lent.now) }
+{
+    let mut texts = Vec::with_capacity(alloc, lent.len())?;
+    for text in lent {
+        texts.push(Vec::from_slice(alloc, text)?)?;
+    }
+    Ok(texts)
+}
+
+/// Surveys a journal's bytes without copying them. A torn tail is left where it stands.
+///
+/// # Errors
+///
+/// Out of memory.
+pub fn lent_survey_of(alloc: Global, bytes: &[u8]) -> Result<LentSurvey<'_>, AllocError>
+    ensures { IfOk result (λ survey. (all : List (List ℕ)) × Reads 0 bytes.now all
+        × (map (λ t. t.now) survey.texts.items ≡ listed all) × (survey.whole ≡ extent all)
+        × (survey.ending ≡ ending_of survey.whole (drop survey.whole bytes.now))) }
+{
+    let found = read(alloc, 0, bytes)?;
+    Ok(LentSurvey {
+        texts: plain_texts(alloc, &found.records)?,
+        whole: found.whole as u64,
+        ending: ending_of(found.whole as u64, &bytes[found.whole..]),
+    })
 }
 
 /// Surveys a journal's bytes. A torn tail is left where it stands.
@@ -43,11 +83,11 @@ pub fn survey_of(alloc: Global, bytes: &[u8]) -> Result<Survey, AllocError>
         × (map (λ v. v.items) survey.texts.items ≡ listed all) × (survey.whole ≡ extent all)
         × (survey.ending ≡ ending_of survey.whole (drop survey.whole bytes.now))) }
 {
-    let found = read(alloc, 0, bytes)?;
+    let lent = lent_survey_of(alloc, bytes)?;
     Ok(Survey {
-        texts: plain_texts(alloc, &found.records)?,
-        whole: found.whole as u64,
-        ending: ending_of(found.whole as u64, &bytes[found.whole..]),
+        texts: copies_of(alloc, &lent.texts)?,
+        whole: lent.whole,
+        ending: lent.ending,
     })
 }
 

@@ -25,7 +25,9 @@ is_some x e = cc
 not_among : (id : List ℕ) (operators : List Operator) (place : ℕ) (o : Operator) → list_any (bytes_eq id) (ids operators) ≡ false
     → slice_get operators place ≡ Some o → bytes_eq id o.id ≡ false
 not_among id [] place o none is = absurd (is_some o is)
-not_among id (x ∷ xs) zero o none is = ap (λ (y : Operator). bytes_eq id y.id) (sym (the_same x o is)) ∙ (none_of (bytes_eq id x.id) (list_any (bytes_eq id) (ids xs)) none).0
+not_among id (x ∷ xs) zero o none is =
+    ap (λ (y : Operator). bytes_eq id y.id) (sym (the_same x o is))
+    ∙ (none_of (bytes_eq id x.id) (list_any (bytes_eq id) (ids xs)) none).0
 not_among id (x ∷ xs) (suc place) o none is = not_among id xs place o (none_of (bytes_eq id x.id) (list_any (bytes_eq id) (ids xs)) none).1 is
 
 placed_from : (operators : List Operator) (i place : ℕ) (o : Operator) → repeats (ids operators) ≡ false
@@ -48,18 +50,22 @@ found operators place o alone is =
     let from_zero : 0 + place ≡ place = omega arith in
     position_from-zero (has_id o.id) operators ∙ placed_from operators 0 place o alone is ∙ ap (λ (n : ℕ). Some n) from_zero
 
-by_operator : (c : Configuration) (r : Request) (e : Entry) (place : ℕ) (here : Option Operator) → repeats (ids c.operators) ≡ false → slice_get c.operators place ≡ here
+by_operator : (c : Configuration) (r : Request) (e : Entry) (place : ℕ) (here : Option Operator) → repeats (ids c.operators) ≡ false
+    → slice_get c.operators place ≡ here
     → option_map (asked_by r) (option_map (λ (o : Operator). OperatorBy o.id) here) ≡ Some e → actor_by c e.client ≡ OperatorAt place
 by_operator c r e place None alone there is = absurd (is_some e is)
 by_operator c r e place (Some o) alone there is =
-    ap (λ (x : Entry). actor_by c x.client) (sym (the_same (asked_by r (OperatorBy o.id)) e is)) ∙ ap operator_at (found c.operators place o alone there)
+    ap (λ (x : Entry). actor_by c x.client) (sym (the_same (asked_by r (OperatorBy o.id)) e is))
+    ∙ ap operator_at (found c.operators place o alone there)
 
-by_actor : (c : Configuration) (r : Request) (e : Entry) (actor : Actor) → repeats (ids c.operators) ≡ false → option_map (asked_by r) (client_at c actor) ≡ Some e → actor_by c e.client ≡ actor
+by_actor : (c : Configuration) (r : Request) (e : Entry) (actor : Actor) → repeats (ids c.operators) ≡ false
+    → option_map (asked_by r) (client_at c actor) ≡ Some e → actor_by c e.client ≡ actor
 by_actor c r e Author alone is = ap (λ (x : Entry). actor_by c x.client) (sym (the_same (asked_by r TheAuthor) e is))
 by_actor c r e (OperatorAt place) alone is = by_operator c r e place (slice_get c.operators place) alone refl is
 by_actor c r e Nobody alone is = absurd (is_some e is)
 
-pub who_is : (c : Configuration) (r : Request) (e : Entry) → repeats (ids c.operators) ≡ false → entry_by c r ≡ Some e → actor_by c e.client ≡ actor_of c r.token
+pub who_is : (c : Configuration) (r : Request) (e : Entry) → repeats (ids c.operators) ≡ false → entry_by c r ≡ Some e
+    → actor_by c e.client ≡ actor_of c r.token
 who_is c r e alone is = by_actor c r e (actor_of c r.token) alone is
 
 -- nobody's request has an entry

@@ -29,7 +29,8 @@ pub told_is : (s : Standing) (t : ℕ) (p : Published Policy) (id : List ℕ) (f
 told_is s t p id found same are = ap (λ x. policy_samples t x found) same ∙ ap (λ xs. policy_samples t p.document.id xs) are
 
 -- one more item of those that each give some
-pub one_more : {X R : Type 0} (f : X → List R) (items : List X) (i : ℕ) (item : X) (first old new added : List R) → i < length items → item ≡ get_or items i item
+pub one_more : {X R : Type 0} (f : X → List R) (items : List X) (i : ℕ) (item : X) (first old new added : List R) → i < length items
+    → item ≡ get_or items i item
     → old ≡ first ++ flat_map f (take i items) → new ≡ old ++ added → added ≡ f item → new ≡ first ++ flat_map f (take (i + 1) items)
 one_more f items i item first old new added within is so_far made same =
     made ∙ ap (λ xs. xs ++ added) so_far ∙ ap (λ xs. (first ++ flat_map f (take i items)) ++ xs) same
@@ -38,7 +39,8 @@ one_more f items i item first old new added within is so_far made same =
     ∙ ap (λ xs. first ++ flat_map f xs) (sym (take_more items i item within))
 
 -- the samples of all policies in force
-pub all_told : (s : Standing) (t : ℕ) (id : List ℕ) (items : List (lent.Published program.Policy)) → map lent_policy items ≡ in_force s.publications id t
+pub all_told : (s : Standing) (t : ℕ) (id : List ℕ) (items : List (lent.Published program.Policy))
+    → map lent_policy items ≡ in_force s.publications id t
     → flat_map (lent_told s t) items ≡ samples_for s t id
 all_told s t id items are =
     sym (flat_map-map (told_of s t) lent_policy items)

@@ -1,5 +1,6 @@
 -- A server that does what entries tell has of each operator what stands after them.
-use Rattle.std.proofs.Common.{◌≡◌, ◌≢◌, ◌<◌, ℕ, Bool, true, false, nat_eq, zero, suc, List, [], ◌∷◌, map, length, get_or, Option, Some, None, Result, Ok, Err, inl, inr, refl, sym, ap, subst, ◌∙◌, arith}
+use Rattle.std.proofs.Common.{◌≡◌, ◌≢◌, ◌<◌, ℕ, Bool, true, false, nat_eq, zero, suc, List, [], ◌∷◌, map, length, get_or, Option}
+use Rattle.std.proofs.Common.{Some, None, Result, Ok, Err, inl, inr, refl, sym, ap, subst, ◌∙◌, arith}
 use Rattle.std.specs.FinMap.{empty}
 use Rattle.std.specs.List.{slice_get}
 use Rattle.std.specs.Option.{option_map}
@@ -30,7 +31,8 @@ use Rattle.journal_entry.specs.Entries.{Entry}
 use Rattle.journal_entry.specs.Requests.{actor_by, entry_by, request_by}
 use Rattle.journal_entry.proofs.Asked.{reads_the_request}
 use Rattle.journal_samples.specs.Servers.{AreOf, Holds, StandsAsServed, seen}
-use Rattle.journal_samples.specs.Standing.{Standing, after_asked, after_entries, after_entry, after_request, call_does, counts, new_standing, with_documents, with_rows}
+use Rattle.journal_samples.specs.Standing.{Standing, after_asked, after_entries, after_entry, after_request, call_does, counts}
+use Rattle.journal_samples.specs.Standing.{new_standing, with_documents, with_rows}
 use Rattle.journal_samples.proofs.Held.{succeeded}
 use Rattle.journal_samples.proofs.Placing.{not_nobody, who_is}
 
@@ -38,42 +40,53 @@ module _ (w : State) (place : ℕ) (rows : Rows) (held : slice_get w.fleets plac
   abbrev s : Standing
   s = seen w place rows
 
-  authored_holds : (own : Result (Reply × (Drafts × List Publication)) Code) → Holds place (settled s (own >>= λ after. Ok (after.0, with_documents s after.1))).1 (authored w own).1
+  authored_holds : (own : Result (Reply × (Drafts × List Publication)) Code)
+      → Holds place (settled s (own >>= λ after. Ok (after.0, with_documents s after.1))).1 (authored w own).1
   authored_holds (Err code) = (rows, held, refl)
   authored_holds (Ok after) = (rows, held, refl)
 
-  own_outcome : (own : Result (Reply × Rows) Code) → Holds place (settled s (own >>= λ after. Ok (after.0, with_rows s after.1))).1 (lifted w place own).1
+  own_outcome : (own : Result (Reply × Rows) Code)
+      → Holds place (settled s (own >>= λ after. Ok (after.0, with_rows s after.1))).1 (lifted w place own).1
   own_outcome (Err code) = (rows, held, refl)
   own_outcome (Ok after) = (after.1, set_here w.fleets place rows after.1 held, refl)
 
   own_holds : (operator : Option Operator) (found : Option Rows) (called : OperatorCall) (request : Request) → found ≡ Some rows
-      → Holds place (settled s (or_code Token operator >>= λ o. operator_does w.configuration.zone o w.publications rows called request >>= λ after. Ok (after.0, with_rows s after.1))).1
+      → Holds place
+      (settled s
+      (or_code Token operator >>= λ o. operator_does w.configuration.zone o w.publications rows called request
+      >>= λ after. Ok (after.0, with_rows s after.1))).1
       (operator_step w place operator found called request).1
   own_holds None found called request is = (rows, held, refl)
   own_holds (Some o) found called request is =
-      subst (λ f. Holds place (settled s (operator_does w.configuration.zone o w.publications rows called request >>= λ after. Ok (after.0, with_rows s after.1))).1 (operator_step w place (Some o) f called request).1)
-      (sym is) (own_outcome (operator_does w.configuration.zone o w.publications rows called request))
+      let own = operator_does w.configuration.zone o w.publications rows called request in
+      subst (λ f. Holds place (settled s (own >>= λ after. Ok (after.0, with_rows s after.1))).1 (operator_step w place (Some o) f called request).1)
+      (sym is) (own_outcome own)
 
   -- an answered call
   abbrev After : Result Call Code → Request → Type 0
   After called request = Holds place (settled s (called >>= λ c. call_does s c request)).1 (call_step w called request).1
 
-  by_author : (request : Request) (called : Result Call Code) → actor_of w.configuration request.token ≡ Author → call_of w.configuration request ≡ called → After called request
+  by_author : (request : Request) (called : Result Call Code) → actor_of w.configuration request.token ≡ Author
+      → call_of w.configuration request ≡ called → After called request
   by_author request (Err code) whose is = (rows, held, refl)
   by_author request (Ok (call.Author own)) whose is = authored_holds (author_does w.drafts w.publications own request)
   by_author request (Ok (call.Operator other own)) whose is = absurd (never_operator w.configuration request other own whose is)
 
   at_own : (request : Request) (other : ℕ) (own : OperatorCall) → other ≡ place → After (Ok (call.Operator other own)) request
   at_own request other own same =
-      subst (λ p. After (Ok (call.Operator p own)) request) (sym same) (own_holds (slice_get w.configuration.operators place) (slice_get w.fleets place) own request held)
+      subst (λ p. After (Ok (call.Operator p own)) request) (sym same)
+      (own_holds (slice_get w.configuration.operators place) (slice_get w.fleets place) own request held)
 
-  by_operator : (request : Request) (called : Result Call Code) → actor_of w.configuration request.token ≡ OperatorAt place → call_of w.configuration request ≡ called → After called request
+  by_operator : (request : Request) (called : Result Call Code) → actor_of w.configuration request.token ≡ OperatorAt place
+      → call_of w.configuration request ≡ called → After called request
   by_operator request (Err code) whose is = (rows, held, refl)
   by_operator request (Ok (call.Author own)) whose is = absurd (never_author w.configuration request place own whose is)
-  by_operator request (Ok (call.Operator other own)) whose is = at_own request other own (same_operator w.configuration request place other own whose is)
+  by_operator request (Ok (call.Operator other own)) whose is =
+      at_own request other own (same_operator w.configuration request place other own whose is)
 
   -- an entry that counts
-  counted : (e : Entry) (request : Request) (actor : Actor) → actor_by w.configuration e.client ≡ actor → counts place actor ≡ true → request_by w.configuration e ≡ Some request → after_entry s e ≡ after_request s request
+  counted : (e : Entry) (request : Request) (actor : Actor) → actor_by w.configuration e.client ≡ actor → counts place actor ≡ true
+      → request_by w.configuration e ≡ Some request → after_entry s e ≡ after_request s request
   counted e request actor client counts_it asked =
       let so : counts place (actor_by w.configuration e.client) ≡ true = ap (counts place) client ∙ counts_it in
       rw so (ap (after_asked s) asked)
@@ -83,7 +96,9 @@ module _ (w : State) (place : ℕ) (rows : Rows) (held : slice_get w.fleets plac
       let so : counts place (actor_by w.configuration e.client) ≡ false = ap (counts place) client ∙ not_it in
       rw so refl
 
-  module _ (next : State) (e : Entry) (request : Request) (reply : Reply) (alone : repeats (ids w.configuration.operators) ≡ false) (is : entry_by w.configuration request ≡ Some e) (ok : reply.status ≡ 200) (step : Step w request reply next) where
+  module _ (next : State) (e : Entry) (request : Request) (reply : Reply)
+      (alone : repeats (ids w.configuration.operators) ≡ false) (is : entry_by w.configuration request ≡ Some e)
+      (ok : reply.status ≡ 200) (step : Step w request reply next) where
     next_is : next ≡ (call_step w (call_of w.configuration request) request).1
     next_is = succeeded w next (does w request) reply ok step
 
@@ -93,23 +108,28 @@ module _ (w : State) (place : ℕ) (rows : Rows) (held : slice_get w.fleets plac
     client : actor_by w.configuration e.client ≡ actor_of w.configuration request.token
     client = who_is w.configuration request e alone is
 
-    answered : counts place (actor_of w.configuration request.token) ≡ true → After (call_of w.configuration request) request → Holds place (after_entry s e) next
+    answered : counts place (actor_of w.configuration request.token) ≡ true → After (call_of w.configuration request) request
+        → Holds place (after_entry s e) next
     answered counts_it after =
         subst (λ x. Holds place x next) (sym (counted e request (actor_of w.configuration request.token) client counts_it asked))
         (subst (λ v. Holds place (after_request s request) v) (sym next_is) after)
 
-    of_other : (other : ℕ) → actor_of w.configuration request.token ≡ OperatorAt other → place ≢ other → counts place (OperatorAt other) ≡ false → Holds place (after_entry s e) next
+    of_other : (other : ℕ) → actor_of w.configuration request.token ≡ OperatorAt other → place ≢ other → counts place (OperatorAt other) ≡ false
+        → Holds place (after_entry s e) next
     of_other other whose apart not_it =
+        let standing : Configuration → List Publication → Drafts → Standing =
+        λ c ps ds. record { configuration = c; place = place; publications = ps; drafts = ds; rows = rows } in
         let left = leaves_others w request reply next other place whose step apart in (
           rows,
           left.0.rows ∙ held,
           passed_over e (OperatorAt other) (client ∙ whose) not_it
-              ∙ ap (λ c. record { configuration = c; place = place; publications = w.publications; drafts = w.drafts; rows = rows }) (sym left.0.configuration)
-              ∙ ap (λ ps. record { configuration = next.configuration; place = place; publications = ps; drafts = w.drafts; rows = rows }) (sym left.0.publications)
-              ∙ ap (λ ds. record { configuration = next.configuration; place = place; publications = next.publications; drafts = ds; rows = rows }) (sym left.1),
+              ∙ ap (λ c. standing c w.publications w.drafts) (sym left.0.configuration)
+              ∙ ap (λ ps. standing next.configuration ps w.drafts) (sym left.0.publications)
+              ∙ ap (λ ds. standing next.configuration next.publications ds) (sym left.1),
         )
 
-    by_place : (other : ℕ) (b : Bool) → nat_eq other place ≡ b → actor_of w.configuration request.token ≡ OperatorAt other → Holds place (after_entry s e) next
+    by_place : (other : ℕ) (b : Bool) → nat_eq other place ≡ b → actor_of w.configuration request.token ≡ OperatorAt other
+        → Holds place (after_entry s e) next
     by_place other true same whose =
         let it : other ≡ place = grind (arith, nat_tests, same) in
         let own : actor_of w.configuration request.token ≡ OperatorAt place = whose ∙ ap OperatorAt it in
@@ -135,7 +155,8 @@ operator_same : (w : State) (place : ℕ) (found : Option Operator) (held : Opti
     → (operator_step w place found held own request).1.configuration ≡ w.configuration
 operator_same w place None held own request = refl
 operator_same w place (Some operator) None own request = refl
-operator_same w place (Some operator) (Some rows) own request = lifted_same w place (operator_does w.configuration.zone operator w.publications rows own request)
+operator_same w place (Some operator) (Some rows) own request =
+    lifted_same w place (operator_does w.configuration.zone operator w.publications rows own request)
 
 authored_same : (w : State) (own : Result (Reply × (Drafts × List Publication)) Code) → (authored w own).1.configuration ≡ w.configuration
 authored_same w (Err code) = refl
@@ -144,7 +165,8 @@ authored_same w (Ok after) = refl
 call_same : (w : State) (called : Result Call Code) (request : Request) → (call_step w called request).1.configuration ≡ w.configuration
 call_same w (Err code) request = refl
 call_same w (Ok (call.Author own)) request = authored_same w (author_does w.drafts w.publications own request)
-call_same w (Ok (call.Operator place own)) request = operator_same w place (slice_get w.configuration.operators place) (slice_get w.fleets place) own request
+call_same w (Ok (call.Operator place own)) request =
+    operator_same w place (slice_get w.configuration.operators place) (slice_get w.fleets place) own request
 
 stays : (w next : State) (request : Request) (reply : Reply) → Step w request reply next → next.configuration ≡ w.configuration
 stays w next request reply step = elim step [
@@ -152,7 +174,8 @@ stays w next request reply step = elim step [
   | inr a ↦ ap (λ v. v.configuration) a.2
 ]
 
-walked : (w next : State) (place : ℕ) (entries : List Entry) (history : List Exchange) (s : Standing) → repeats (ids w.configuration.operators) ≡ false → Holds place s w
+walked : (w next : State) (place : ℕ) (entries : List Entry) (history : List Exchange) (s : Standing)
+    → repeats (ids w.configuration.operators) ≡ false → Holds place s w
     → AreOf w.configuration entries history → Run w history next → Holds place (after_entries s entries) next
 walked w next place [] [] s alone holds are run = subst (λ v. Holds place s v) (sym run) holds
 walked w next place [] (x ∷ history) s alone holds are run = absurd are
@@ -161,7 +184,8 @@ walked w next place (e ∷ entries) (x ∷ history) s alone holds are run =
     let between = run.0 in
     let same : between.configuration ≡ w.configuration = stays w between x.request x.reply run.1 in
     let here : Holds place (after_entry s e) between =
-    subst (λ t. Holds place (after_entry t e) between) (sym holds.2) (stepped w place holds.0 holds.1 between e x.request x.reply alone are.0 are.1 run.1) in
+    subst (λ t. Holds place (after_entry t e) between) (sym holds.2)
+    (stepped w place holds.0 holds.1 between e x.request x.reply alone are.0 are.1 run.1) in
     walked between next place entries history (after_entry s e)
     (ap (λ c. repeats (ids c.operators)) same ∙ alone) here
     (subst (λ c. AreOf c entries history) (sym same) are.2) run.2
@@ -172,7 +196,8 @@ no_rows = empty
 -- each operator of a new server has no rows
 each_empty : (operators : List Operator) (place : ℕ) → place < length operators → slice_get (map (λ operator. no_rows) operators) place ≡ Some no_rows
 each_empty operators place within =
-    slice_get-get_or (map (λ operator. no_rows) operators) place no_rows (omega (arith, within, length-map operators (λ (operator : Operator). no_rows)))
+    slice_get-get_or (map (λ operator. no_rows) operators) place no_rows
+    (omega (arith, within, length-map operators (λ (operator : Operator). no_rows)))
     ∙ ap (λ x. Some x) (all operators place)
   where
     all : (operators : List Operator) (place : ℕ) → get_or (map (λ operator. no_rows) operators) place no_rows ≡ no_rows

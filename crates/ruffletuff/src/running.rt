@@ -8,12 +8,12 @@ use crate::controlling::serve_controlled;
 use crate::counting::counters_of;
 use crate::host::ServerHost;
 use crate::opening::{ConfigWithText, serve_city};
-use crate::reporting::report;
 use cli_args::{COMMIT, CliCommand, HELP, ServeOptions, VERSION, parse_command, version_line};
 use cli_journal::{
     ConfigFile, ExitCause, audit, check, check_archive_of, compact, configuration_in,
     read_text_and_report, report_exit, report_usage,
 };
+use cli_report_command::report;
 use cli_transfer::run_transfer;
 use server_control::{Control, stop};
 use server_http::ShutdownHandle;

@@ -1,6 +1,5 @@
 //! Serves an open city: one thread writes its journal, others answer.
 ghost use Rattle.std.specs.Prelude.{◌≡◌, ℕ, List, IfOk, Ok};
-ghost use Rattle.server_app.specs.OperatorNames.{badges_view, read_badges};
 ghost use Rattle.ruffletuff.specs.Ends.{outcome_of};
 
 use crate::admin::AdminState;
@@ -8,14 +7,13 @@ use crate::counting::count_vehicles;
 use crate::host::ServerHost;
 use crate::listening::BoundListener;
 use crate::thread_job::{ThreadJob, run_concurrently};
-use cli_journal::ExitCause;
+use cli_journal::{ExitCause, operator_names_in};
 use journal_commit::{
     CommitLog, FlushFault, Flusher, LogName, SharedLogName, Space, UnnamedHistory, open,
 };
 use journal_file::Log;
 use mds_parallel::Chunked;
 use mds_text::Id;
-use server_app::OperatorNames;
 use server_durable::DurableHall;
 use server_http::{Queues, ServeOutcome, ShutdownHandle, serve_by};
 use server_site::Site;
@@ -100,20 +98,6 @@ where
     let ended = serve_by(rt, &mut runtime, listener, site, queues, closing);
     keeper.stop(rt);
     ended
-}
-
-/// Reads the operators' names for people in a configuration's text: see `server_app::laws::configurations_have_names`.
-///
-/// # Errors
-///
-/// `NoMemory`.
-pub(crate) fn operator_names_in(alloc: Global, text: &[u8]) -> Result<OperatorNames, ExitCause>
-    ensures { IfOk result (λ badges. read_badges text.now ≡ Ok (badges_view badges)) }
-{
-    match OperatorNames::read(alloc, text) {
-        Ok(badges) => Ok(badges),
-        Err(_) => Err(ExitCause::NoMemory),
-    }
 }
 
 /// Persists what a hall accepts in a log that continues this history, and serves the hall. N names the history.

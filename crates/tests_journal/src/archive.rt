@@ -1,7 +1,11 @@
-//! Tests of archived journals: the names and the bytes of the files that an archive in memory has in the end.
+//! Tests of archived journals, by their bytes: the names and the bytes of the files that an archive in memory has in the
+//! end, and the entries that lie in a journal's bytes.
 use crate::journal::{COMPACTED, OLD, TimedExchange, texts};
 use journal_file::{Journal, Log, MemoryStorage};
-use journal_folder::{Archive, ArchiveFault, ArchiveSlot, archive_journal, journal_span};
+use journal_folder::{
+    Archive, ArchiveFault, ArchiveSlot, archive_journal, journal_span, lent_entries_in,
+    lent_survey_of,
+};
 use std::alloc::Global;
 use std::process::Abort;
 
@@ -110,6 +114,30 @@ fn journals_have_spans(rt: HostRuntime) {
     }
     let bytes = journal_bytes(alloc, &[]).expect(&rt, "a journal");
     assert!(rt; matches!(journal_span(alloc, &bytes), Ok(None)));
+}
+
+/// Checks that the entries behind the head lie in a journal's bytes: so many, and the first one of this moment.
+fn expect_entries(rt: &impl Abort, alloc: Global, texts: &[&[u8]], count: usize, first: i64) {
+    match lent_entries_in(alloc, 1, texts) {
+        Ok(entries) => {
+            assert!(rt; entries.len() == count);
+            assert!(rt; matches!(entries.first(), Some(entry) if entry.at.get() == first));
+        }
+        Err(_) => assert!(rt; false),
+    }
+}
+
+/// The payloads of a journal are found where they lie in its bytes, the head first, without the marks.
+#[test]
+fn entries_lie_in_the_bytes(rt: HostRuntime) {
+    let alloc = rt.alloc();
+    let bytes = journal_bytes(alloc, OLD).expect(&rt, "a journal");
+    let survey = lent_survey_of(alloc, &bytes).expect(&rt, "memory");
+    assert!(rt; survey.whole == bytes.len() as u64);
+    match survey.texts.split_first() {
+        Some((_, rest)) => expect_entries(&rt, alloc, rest, 6, 1000),
+        None => assert!(rt; false),
+    }
 }
 
 /// A journal is archived once, and another of the same span beside it; the first one stays as it was.

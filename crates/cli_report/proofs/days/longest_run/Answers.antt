@@ -19,14 +19,16 @@ loop-left-preserved-then-count-leading c =
     let back : l.left ≡ i + 1 = omega arith in
     let within : i < length xs = omega (arith, l.invariant.within) in
     let fits : i + 1 + l.leading ≤ length xs = omega (arith, l.invariant.fits) in
-    let h = led xs i l.leading c.run_with-run.result x within c.index-samples-left.is c.run_with-run.ensures fits (subst (λ (n : ℕ). take l.leading (drop n xs) ≡ leading (drop n xs)) back l.invariant.begun) in
+    let h = led xs i l.leading c.run_with-run.result x within c.index-samples-left.is c.run_with-run.ensures fits
+    (subst (λ (n : ℕ). take l.leading (drop n xs) ≡ leading (drop n xs)) back l.invariant.begun) in
     record {
       within = omega arith;
       fits = h.0;
       inside = h.0;
       begun = h.1;
       found =
-          is_longest xs i c.run_with-run.result l.first l.count x within c.index-samples-left.is h.0 l.invariant.inside h.1 (l.invariant.found ∙ ap (λ (n : ℕ). longest (drop n xs)) back) (omega arith);
+          is_longest xs i c.run_with-run.result l.first l.count x within c.index-samples-left.is h.0 l.invariant.inside h.1
+          (l.invariant.found ∙ ap (λ (n : ℕ). longest (drop n xs)) back) (omega arith);
     }
 
 pub loop-left-preserved : goal.loop-left-preserved
@@ -38,12 +40,14 @@ loop-left-preserved c =
     let back : l.left ≡ i + 1 = omega arith in
     let within : i < length xs = omega (arith, l.invariant.within) in
     let fits : i + 1 + l.leading ≤ length xs = omega (arith, l.invariant.fits) in
-    let h = led xs i l.leading c.run_with-run.result x within c.index-samples-left.is c.run_with-run.ensures fits (subst (λ (n : ℕ). take l.leading (drop n xs) ≡ leading (drop n xs)) back l.invariant.begun) in
+    let h = led xs i l.leading c.run_with-run.result x within c.index-samples-left.is c.run_with-run.ensures fits
+    (subst (λ (n : ℕ). take l.leading (drop n xs) ≡ leading (drop n xs)) back l.invariant.begun) in
     record {
       within = omega arith;
       fits = h.0;
       inside = l.invariant.inside;
       begun = h.1;
       found =
-          stays_longest xs i c.run_with-run.result l.first l.count x within c.index-samples-left.is h.0 l.invariant.inside h.1 (l.invariant.found ∙ ap (λ (n : ℕ). longest (drop n xs)) back) (omega arith);
+          stays_longest xs i c.run_with-run.result l.first l.count x within c.index-samples-left.is h.0 l.invariant.inside h.1
+          (l.invariant.found ∙ ap (λ (n : ℕ). longest (drop n xs)) back) (omega arith);
     }

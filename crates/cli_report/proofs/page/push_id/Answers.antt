@@ -11,6 +11,7 @@ three old a b c one two new first second third =
 pub returns : goal.returns
 returns c =
     on_ok_weaker c.push_heading_end.result
-    (λ made. three c.args.out.now.items (codes " <small>") (hyphenated_text lower c.args.operator.now.id) (codes "</small></h2>\n") c.extend_from_slice.new.self.items c.push_printed.new.out.items c.push_heading_end.new.out.items
+    (λ made. three c.args.out.now.items (codes " <small>") (hyphenated_text lower c.args.operator.now.id) (codes "</small></h2>\n")
+    c.extend_from_slice.new.self.items c.push_printed.new.out.items c.push_heading_end.new.out.items
     c.in_ok-extend_from_slice.ensures.items c.in_ok-push_printed.ensures made)
     c.push_heading_end.ensures

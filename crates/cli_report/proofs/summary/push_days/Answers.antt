@@ -13,11 +13,15 @@ days-preserved c =
     let count = c.count_first-count.result in
     let group = c.front_of-group.result.now in
     let rest = c.rest_of-rest.result.now in
-    one_more (λ samples. IsRow c.args.zone.now (day_row (operator_view c.args.operator.now) (map tree_policy c.args.trees.now) samples)) c.args.ordered.now left rest group c.args.out.now.items c.days.out.items c.push_day.new.out.items
-    (c.count_first-count.ensures.group ∙ ap (λ g. g ∷ grouped (drop count left)) (sym c.front_of-group.ensures) ∙ ap (λ r. group ∷ grouped r) (sym c.rest_of-rest.ensures))
+    one_more (λ samples. IsRow c.args.zone.now (day_row (operator_view c.args.operator.now) (map tree_policy c.args.trees.now) samples))
+    c.args.ordered.now left rest group c.args.out.now.items c.days.out.items c.push_day.new.out.items
+    (c.count_first-count.ensures.group
+    ∙ ap (λ g. g ∷ grouped (drop count left)) (sym c.front_of-group.ensures)
+    ∙ ap (λ r. group ∷ grouped r) (sym c.rest_of-rest.ensures))
     c.days.invariant c.in_ok-push_day.ensures
 
 pub returns : goal.returns
 returns c =
-    all_told (λ samples. IsRow c.args.zone.now (day_row (operator_view c.args.operator.now) (map tree_policy c.args.trees.now) samples)) c.args.ordered.now c.days.left.now c.args.out.now.items c.days.out.items
+    all_told (λ samples. IsRow c.args.zone.now (day_row (operator_view c.args.operator.now) (map tree_policy c.args.trees.now) samples))
+    c.args.ordered.now c.days.left.now c.args.out.now.items c.days.out.items
     (grind (arith, nat_tests, c.is_empty.ensures, c.days-test.false)) c.days.invariant

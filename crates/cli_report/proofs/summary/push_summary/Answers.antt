@@ -9,6 +9,8 @@ use Rattle.cli_report.proofs.summary.push_summary.Goals as goal
 pub returns : goal.returns
 returns c =
     on_ok_weaker c.push_days.result
-    (λ made. summed c.args.zone.now (operator_view c.args.operator.now) (policies_in (publications_of c.args.operator.now.catalogue.now)) (map tree_policy c.deref.result.now) c.args.operator.now.samples.now c.in_ok-ordered.ordered.items c.deref-2.result.now c.args.out.now.items c.push_days.new.out.items
+    (λ made. summed c.args.zone.now (operator_view c.args.operator.now)
+    (policies_in (publications_of c.args.operator.now.catalogue.now)) (map tree_policy c.deref.result.now)
+    c.args.operator.now.samples.now c.in_ok-ordered.ordered.items c.deref-2.result.now c.args.out.now.items c.push_days.new.out.items
     (ap (map tree_policy) c.deref.ensures.value ∙ c.in_ok-trees.ensures) c.deref-2.ensures.value c.in_ok-ordered.ensures made)
     c.push_days.ensures

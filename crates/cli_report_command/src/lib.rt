@@ -1,0 +1,11 @@
+//! The command `report`: reads a city's journals, works out its operators side by side, and writes the report's files.
+#![tactic(auto)]
+
+mod report_files;
+mod report_journals;
+mod report_operators;
+mod report_rows;
+mod report_samples;
+mod reporting;
+
+pub use reporting::report;
