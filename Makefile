@@ -6,8 +6,8 @@
 # server   proves ruffletuff with all that it stands on, and builds it
 # plain    the same of mds_serve, which keeps nothing
 # serve    the server on 127.0.0.1:8080 for the city of examples/city.json, kept in out/city, with three lines to paste that ask it
-# try      River City to look at in a browser, on 127.0.0.1:8090: ruffletuff with its page, six policies and two fleets
-# report   a week of River City, and the report on how its operators stood, in out/report
+# try      River City to look at in a browser, on 127.0.0.1:8090: who breaks which rule, with six policies and two fleets
+# report   a week of River City, and the report on who broke which rule, since when, in out/report, with the command for one operator
 # test-web  the page's checks in headless Chromium (Debian's chromium and nodejs; minutes, once a server is built)
 # shots    the README's screenshots, by the same Chromium
 # openapi  checks docs/openapi.yaml against the protocol and the scripts (a python3 with the modules yaml and jsonschema)
@@ -23,10 +23,10 @@
 # What each takes where nothing is built, on a machine that does nothing else.
 TEST_TIME := about 15 minutes on two processors
 PROVE_TIME := an hour and more on four processors, two on two
-EDITS_TIME := about four hours
 BUILD_TIME := about 40 minutes
 SERVER_TIME := about an hour
 # And once it is built.
+EDITS_TIME := EDITS_TIME_HERE
 TRY_TIME := half a minute
 WEB_TIME := some minutes
 REPORT_TIME := a minute, and several before a proof
@@ -60,7 +60,8 @@ prove:
 	@bash tests/gate
 
 edits:
-	@bash tests/edits "$(EDITS_TIME)" $(CRATE)
+	@echo "make edits takes $(EDITS_TIME) over what make prove built. It is part of a release, not of the gate."
+	@python3 -B tests/edits.py $(addprefix --crate ,$(CRATE)) --jobs $$(( $$(nproc) < 4 ? $$(nproc) : 4 ))
 
 build:
 	@if ! { $(call is_built,$(PROGRAM)); }; then \

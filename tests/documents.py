@@ -15,7 +15,7 @@ from pathlib import Path
 from urllib.parse import unquote
 
 ROOT = Path(__file__).resolve().parent.parent
-MOST_WORDS = {"README.md": 905, "docs/ARCHITECTURE.md": 2_000, "docs/CONTRIBUTING.md": 1_200, "docs/CLAIMS.md": 3_000}
+MOST_WORDS = {"README.md": 900, "docs/ARCHITECTURE.md": 2_000, "docs/CONTRIBUTING.md": 1_200, "docs/CLAIMS.md": 3_000}
 GENERATED = {"docs/ARCHITECTURE.md"}  # a table between two lines that begin with '<!-- crates' doesn't count
 MOST_WORDS_OF_CELL = {"docs/CLAIMS.md": 40}
 # What no document says, and what it is.

@@ -5,8 +5,8 @@
 
 URL is a server for the configuration city.json that has just begun, as http://127.0.0.1:8080. A cap of an earlier year is published
 first, which the cap in force supersedes; the festival is moved by whole weeks until it is still to come. The operator `scoot` has 419
-vehicles and breaks three rules by day, `wheels` has 112 and keeps all of them; with N, `scoot` reports as many more that break none;
-with --policies-only nobody reports any. Prints the URL and the access tokens. Ends with 1 where a request isn't answered 200.
+vehicles and breaks two to four rules, by the hour, `wheels` has 112 and keeps all of them; with N, `scoot` reports as many more that
+break none; with --policies-only nobody reports any. Prints the URL and the access tokens. Ends with 1 where a request isn't answered 200.
 """
 
 import argparse
@@ -156,13 +156,13 @@ def main():
     city, configuration, now = City(options.url), document("city.json"), int(time.time() * 1000)
     publish(city, configuration["author"], now)
     more = [(options.vehicles, SCOOTER, "available", "city", ("downtown", "east"), 0.2, 60)]
-    told = {"scoot": "an operator that breaks three rules by day", "wheels": "an operator that keeps all rules"}
+    told = {"scoot": "an operator that breaks two to four rules, by the hour", "wheels": "an operator that keeps all rules"}
     with ThreadPoolExecutor(CONNECTIONS) as pool:
         for token, groups, seed in () if options.policies_only else (("scoot", SCOOT + more, 7), ("wheels", WHEELS, 8)):
             asked = [pool.submit(city.ask, token, "POST", "/fleet/events", report) for report in fleet(groups, seed, now)]
             told[token] += f", with {sum(it.result()['result'] == 'new' for it in asked)} vehicles"
     print(f"{options.url}/ with one of these access tokens:")
-    for token, who in {configuration["author"]: "the city's author", **told}.items():
+    for token, who in {configuration["author"]: "the city's author, who sees who breaks which rule", **told}.items():
         print(f"  {token:8}{who}")
     return 0
 

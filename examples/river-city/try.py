@@ -53,6 +53,7 @@ def main():
         words = [f"{HERE}/publish.py", f"http://127.0.0.1:{port}", "--vehicles", options.vehicles]
         if subprocess.run([sys.executable, "-B", *words], check=False).returncode:
             return 1
+        print("make report reports a week of it: who broke which rule, and since when.")
         print("Ctrl-C ends it.", flush=True)
         signal.pause()
     return 0

@@ -3,16 +3,20 @@
 
     week.py PROGRAM DIR [--every MINUTES]
 
-PROGRAM is a built ruffletuff. DIR gets the city's folder `city` and the report, with report.html, in the place of earlier ones. The week is the one
-from Monday, 2 March 2026 on, with the night in which clocks are set forward. Places, policies and fleets are those of publish.py; the
-festival is in this week. Vehicles go downtown by day and back at night, and many to the waterfront at the weekend.
+PROGRAM is a built ruffletuff. DIR gets the city's folder `city` and the report, with report.html, in the place of earlier ones. The week
+is the one from Monday, 2 March 2026 on, with the night in which clocks are set forward. Places, policies and fleets are those of
+publish.py; the festival is in this week. Vehicles go downtown by day and back at night, and many to the waterfront at the weekend; those
+that are broken, or have stood too long by then, stay. Prints who breaks which rule at the week's end, and since when, and last the
+command for a report on the first operator alone.
 """
 
 import argparse
 import contextlib
+import csv
 import json
 import os
 import random
+import shlex
 import subprocess
 import sys
 
@@ -66,16 +70,21 @@ def reported(vehicle, at, state, place=None):
     return {**vehicle, "timestamp": at, "vehicle_state": state, "event_types": [publish.EVENTS[state]], "location": location}
 
 
+def is_left(vehicle):
+    """Whether a vehicle stays where it stood at the week's begin: it is broken, or has stood for more than 72 hours."""
+    return vehicle["vehicle_state"] == "non_operational" or vehicle["timestamp"] < MONDAY - 72 * HOUR
+
+
 def of_operators(ids):
     """What operators report: their vehicles at the week's begin, and then trips, hour by hour. Each with its moment and operator."""
     fleets = {it: list(publish.fleet(groups, SEED, MONDAY)) for it, groups in zip(ids, (publish.SCOOT, publish.WHEELS), strict=True)}
     for operator, vehicles in fleets.items():
-        yield from ((MONDAY + 1, operator, it) for it in vehicles)
+        yield from ((MONDAY, operator, it) for it in vehicles)
     for hour in range(HOURS):
         found, (where, busy) = [], weights(hour)
         for operator, vehicles in fleets.items():
             for number, vehicle in enumerate(vehicles):
-                if CHANCE.random() >= busy:
+                if is_left(vehicle) or CHANCE.random() >= busy:
                     continue
                 begun = MONDAY + hour * HOUR + CHANCE.randrange(40) * MINUTE
                 trip = reported(vehicle, begun, "on_trip")
@@ -105,6 +114,39 @@ def journal(configuration):
     return b"".join(parts), len(parts)
 
 
+def standing(folder):
+    """Of each rule of each operator the last row of a report, and the first violated one behind all in which it was kept, if any."""
+    found = {}
+    with open(os.path.join(folder, "verdicts.csv"), encoding="utf-8", newline="") as file:
+        for row in csv.DictReader(file):
+            key = row["operator_id"], row["policy_id"], row["rule_number"]
+            since = None if row["status"] == "ok" else found.get(key, (None, None))[1]
+            found[key] = row, since or (row if row["status"] == "violated" else None)
+    return list(found.values())
+
+
+def tell(folder, command, operator):
+    """Prints who breaks which rule at the last moment of a report, and the command for a report on an operator alone."""
+    rules = standing(folder)
+    last = max((row for row, _ in rules), key=lambda row: row["moment"])
+    print(f"at the report's last moment, {last['local']}:")
+    for row, since in rules:
+        if row["moment"] == last["moment"] and row["status"] == "violated":
+            print(f"  {row['operator_name']} breaks \"{row['rule_name']}\": {row['measure']} vehicles, since {since['local']}")
+    print(f"with each day: {os.path.join(folder, 'report.html')}")
+    alone = os.path.join(folder, operator["token"])
+    print(f"{operator['name']} alone, as a city reports one operator from its own folder (docs/REPORT.md):")
+    print(f"  mkdir -p {shlex.quote(alone)}")
+    print(f"  {shlex.join([*command, '--operator', operator['id'], '--out', alone])}")
+
+
+def clear(folder):
+    """Removes an earlier report."""
+    for it in FILES:
+        with contextlib.suppress(FileNotFoundError):
+            os.remove(os.path.join(folder, it))
+
+
 CHANCE = random.Random(SEED)
 
 
@@ -112,21 +154,22 @@ def main():
     parser = argparse.ArgumentParser(description=__doc__, formatter_class=argparse.RawDescriptionHelpFormatter)
     parser.add_argument("program")
     parser.add_argument("folder")
-    parser.add_argument("--every", default="15")
+    parser.add_argument("--every", default="30")
     options = parser.parse_args()
     os.makedirs(city := os.path.join(options.folder, "city"), exist_ok=True)
-    for it in FILES:
-        with contextlib.suppress(FileNotFoundError):
-            os.remove(os.path.join(options.folder, it))
-    bytes_, count = journal(publish.document("city.json"))
+    configuration = publish.document("city.json")
+    first = configuration["operators"][0]
+    for it in (options.folder, os.path.join(options.folder, first["token"])):
+        clear(it)
+    bytes_, count = journal(configuration)
     with open(os.path.join(city, "journal"), "wb") as file:
         file.write(bytes_)
     print(f"a week of {count} records, {len(bytes_)} bytes, in {city}", flush=True)
     times = ("--from", "2026-03-02", "--to", "2026-03-09", "--every", options.every)
-    words = ["report", city, "--config", os.path.join(HERE, "city.json"), *times, "--out", options.folder]
-    status = subprocess.run([options.program, *words], check=False).returncode
+    command = [options.program, "report", city, "--config", os.path.relpath(os.path.join(HERE, "city.json")), *times]
+    status = subprocess.run([*command, "--out", options.folder], check=False).returncode
     if not status:
-        print(f"the report is {os.path.join(options.folder, 'report.html')}")
+        tell(options.folder, command, first)
     return status
 
 
