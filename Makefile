@@ -26,7 +26,7 @@ PROVE_TIME := an hour and more on four processors, two on two
 BUILD_TIME := about 40 minutes
 SERVER_TIME := about an hour
 # And once it is built.
-EDITS_TIME := EDITS_TIME_HERE
+EDITS_TIME := hours (not timed as a whole)
 TRY_TIME := half a minute
 WEB_TIME := some minutes
 REPORT_TIME := a minute, and several before a proof
