@@ -1,19 +1,15 @@
 -- The record of a turn.
-use Rattle.std.proofs.Common.{◌≡◌, ℕ, Bool, true, false, List, Option, Some, None, IfSome, IfNone, IsSome, option_map, Err, refl, sym, ap, subst}
+use Rattle.std.proofs.Common.{◌≡◌, ℕ, Bool, true, false, List, Option, Some, None, IfSome, IfNone, IsSome, option_map, sym, subst}
 use Rattle.std.specs.Prelude.{◌&&◌, ◌==◌}
 use Rattle.std.proofs.lemmas.Bool.{eqb-true}
 use Rattle.journal_commit.specs.declared.backlog.Reservation.{Reservation}
 use Rattle.mds_request.specs.Call.{call_of}
-use Rattle.mds_request.specs.Configuration.{Configuration, actor_of}
+use Rattle.mds_request.specs.Configuration.{Configuration}
 use Rattle.mds_request.specs.Request.{Request}
-use Rattle.mds_request.specs.Reply.{Reply, refused}
-use Rattle.mds_request.specs.declared.code.Code.{Code}
+use Rattle.mds_request.specs.Reply.{Reply}
 use Rattle.mds_request.specs.declared.config.Actor.{Actor}
-use Rattle.mds_request.specs.declared.config.Actor.TheVariants.{Author, Operator, Nobody}
 use Rattle.journal_laws.specs.Persisted.{is_kept, may_change}
-use Rattle.server_state.specs.Early.{unknown}
 use Rattle.server_state.specs.Respond.{TurnGives}
-use Rattle.server_state.proofs.Refusing.{IsSomebody, table_refuses}
 use Rattle.server_durable.specs.DurableResponse.{IsRecordedTurn}
 use Rattle.server_durable.specs.Records.{HasRecord, IsAmong, IsReserved, IsSettled, IsTitled, place_of}
 use Rattle.server_durable.specs.declared.records.CallReservation.{CallReservation}
@@ -73,23 +69,3 @@ settled_unasked place text reserved held (Some e) status stamp is same none sett
 pub of_some : {A P : Type 0} (o : Option A) → IsSome o → IfSome o (λ _. P) → P
 of_some None some p = absurd cc
 of_some (Some a) some p = p
-
--- the author or an operator is known
-somebody : (actor : Actor) → unknown actor ≡ None → IsSomebody actor
-somebody Author known = tt
-somebody (Operator place) known = tt
-somebody Nobody known = absurd cc
-
--- what the table of calls refuses of them is what a turn gives, and no journal persists it
-pub refused_turn : (configuration : Configuration) (request : Request) (code : Code) (stamp : List (List ℕ)) → call_of configuration request ≡ Err code
-    → unknown (actor_of configuration request.token) ≡ None
-    → IsRecordedTurn configuration (actor_of configuration request.token) request (refused code) stamp
-refused_turn configuration request code stamp resolved known =
-    let actor = actor_of configuration request.token in
-    record {
-      turn = table_refuses configuration request code resolved (refused code) refl actor refl (somebody actor known);
-      recorded = λ kept.
-          let may = first_true (may_change (call_of configuration request)) ((refused code).status == 200) kept in
-          let reads : may_change (call_of configuration request) ≡ false = ap may_change resolved in
-          absurd (cc (may, reads));
-    }

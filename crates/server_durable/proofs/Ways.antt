@@ -1,5 +1,5 @@
 -- The response to the request of a head, by what the head is resolved to.
-use Rattle.std.proofs.Common.{◌≡◌, ◌<◌, ℕ, List, length, Option, Some, None, option_map, unwrap_or, IfSome, MatchOption, Result, Ok, Err, IfOk, inl, inr, refl, sym, ap, subst, ◌∙◌}
+use Rattle.std.proofs.Common.{◌≡◌, ◌<◌, ℕ, List, length, Option, Some, None, option_map, unwrap_or, IfSome, MatchOption, Result, Ok, Err, IfOk, inl, refl, sym, ap, subst, ◌∙◌}
 use Rattle.http.specs.declared.request.Parts.{Parts}
 use Rattle.http.specs.declared.response.Response.{Response}
 use Rattle.http_body_util.specs.declared.full.Full.{Full}
@@ -34,13 +34,12 @@ use Rattle.server_routes.specs.declared.app.Question.{Question}
 use Rattle.server_routes.specs.declared.app.Question.TheVariants.{Whoami, Withdrawals, Drafts}
 use Rattle.server_routes.specs.declared.state.StateCall.{StateCall}
 use Rattle.server_routes.specs.declared.state.StateCall.TheVariants.{Call as OfProtocol, Reports, AuthorAsks, OperatorAsks, OwnFleet, OperatorFleet, EachCompliance}
-use Rattle.server_durable.specs.DurableResponse.{Answers, IsAnswered, IsAnsweredBy, IsRecordedTurn, IsTold}
+use Rattle.server_durable.specs.DurableResponse.{Answers, IsAnswered, IsAnsweredAs, IsAnsweredBy, IsTold}
 use Rattle.server_durable.specs.FleetViews.{IsEachCompliance, IsOwnView, IsViewOf}
 use Rattle.server_durable.specs.Many.{ManyAreAnswered}
 use Rattle.server_durable.specs.People.{SaysTold, TellsAuthor, TellsOperator}
 use Rattle.server_durable.specs.CacheControl.{Waits}
 use Rattle.server_durable.proofs.Responses.{ok_more, waits_more}
-use Rattle.server_durable.proofs.Turns.{refused_turn}
 
 -- by its path a request is a call outside the protocol, or one of it
 abbrev way : Actor → Option (Result AppCall Code) → Result Call Code → Result StateCall Code
@@ -144,27 +143,30 @@ module _ (configuration : Configuration) (badges : Badges) (request : Request) (
   abbrev Tells : Actor → Option (Result AppCall Code) → Type 0
   Tells actor found =
       MatchOption (unknown actor)
-      (MatchOption found (IsAnsweredBy configuration actor request stamp response) (λ call. IsTold configuration badges actor request call stamp response))
+      (MatchOption found (IsAnsweredAs configuration actor request stamp response (call_of configuration request)) (λ call. IsTold configuration badges actor request call stamp response))
       (λ code. Says response (refused code))
 
   module _ (calls : call_of configuration request ≡ called_at (actor_of configuration request.token) request.verb (segments_of request.target)) where
-    -- what the table of calls refuses is what a turn gives
-    by_turn : (actor : Actor) → actor_of configuration request.token ≡ actor → unknown actor ≡ None → (called : Result Call Code)
-        → called_at actor request.verb (segments_of request.target) ≡ called → Gives configuration badges actor request stamp response (own_call called)
-        → IsAnsweredBy configuration actor request stamp response
-    by_turn actor asks known (Ok call) is gives = gives
-    by_turn actor asks known (Err code) is says =
-        let refuses : call_of configuration request ≡ Err code =
-        calls ∙ ap (λ who. called_at who request.verb (segments_of request.target)) asks ∙ is in
-        let turn = refused_turn configuration request code stamp refuses (ap unknown asks ∙ known) in
-        inr (record { reply = refused code; turn = subst (λ (who : Actor). IsRecordedTurn configuration who request (refused code) stamp) asks turn; says = says })
+    -- what the table of calls refuses is told without a turn
+    as_call : (actor : Actor) (called : Result Call Code) → Gives configuration badges actor request stamp response (own_call called)
+        → IsAnsweredAs configuration actor request stamp response called
+    as_call actor (Ok call) gives = gives
+    as_call actor (Err code) says = says
+
+    by_call : (actor : Actor) → actor_of configuration request.token ≡ actor
+        → Gives configuration badges actor request stamp response (own_call (called_at actor request.verb (segments_of request.target)))
+        → IsAnsweredAs configuration actor request stamp response (call_of configuration request)
+    by_call actor asks gives =
+        let called = called_at actor request.verb (segments_of request.target) in
+        subst (IsAnsweredAs configuration actor request stamp response)
+        (sym (calls ∙ ap (λ who. called_at who request.verb (segments_of request.target)) asks)) (as_call actor called gives)
 
     tells : (actor : Actor) (found : Option (Result AppCall Code)) → actor_of configuration request.token ≡ actor
         → Gives configuration badges actor request stamp response (way actor found (called_at actor request.verb (segments_of request.target)))
         → Tells actor found
     tells Nobody None asks says = says
     tells Nobody (Some call) asks says = says
-    tells Author None asks gives = by_turn Author asks refl (called_at Author request.verb (segments_of request.target)) refl gives
+    tells Author None asks gives = by_call Author asks gives
     tells Author (Some (Err code)) asks says = says
     tells Author (Some (Ok Events)) asks says = says
     tells Author (Some (Ok (Told question))) asks says = says
@@ -172,7 +174,7 @@ module _ (configuration : Configuration) (badges : Badges) (request : Request) (
     tells Author (Some (Ok (Fleet Vehicles))) asks says = says
     tells Author (Some (Ok (FleetOf view id))) asks says = says
     tells Author (Some (Ok NoOperator)) asks says = says
-    tells (Operator place) None asks gives = by_turn (Operator place) asks refl (called_at (Operator place) request.verb (segments_of request.target)) refl gives
+    tells (Operator place) None asks gives = by_call (Operator place) asks gives
     tells (Operator place) (Some (Err code)) asks says = says
     tells (Operator place) (Some (Ok Events)) asks answered = answered
     tells (Operator place) (Some (Ok (Told Whoami))) asks says = says

@@ -5,9 +5,11 @@ use Rattle.http.specs.declared.response.Response.{Response}
 use Rattle.http_body_util.specs.declared.full.Full.{Full}
 use Rattle.server_app.specs.OperatorNames.{Badges}
 use Rattle.mds_request.specs.declared.code.Code.TheVariants.{BadId, Role}
+use Rattle.mds_request.specs.Call.{call_of}
 use Rattle.mds_request.specs.Configuration.{Configuration, actor_of}
 use Rattle.mds_request.specs.Request.{Request}
 use Rattle.mds_request.specs.Reply.{Reply, refused}
+use Rattle.mds_request.specs.declared.call.Call.{Call}
 use Rattle.mds_request.specs.declared.code.Code.{Code}
 use Rattle.mds_request.specs.declared.config.Actor.{Actor}
 use Rattle.mds_request.specs.declared.config.Actor.TheVariants.{Author, Operator, Nobody}
@@ -62,10 +64,17 @@ IsTold configuration badges Author request (Ok NoOperator) stamp response = Says
 IsTold configuration badges Author request (Ok (FleetOf view id)) stamp response = SaysOne (IsViewOf configuration badges view id request.at) response
 IsTold configuration badges Nobody request (Ok call) stamp response = ⊥
 
+-- The response to a call of the protocol. What the table of calls refuses is answered with that refusal, without a turn
+-- and without a place in the log.
+abbrev pub IsAnsweredAs : Configuration → Actor → Request → List (List ℕ) → Response (Full (List ℕ)) → Result Call Code → Type 0
+IsAnsweredAs configuration actor request stamp response (Ok call) = IsAnsweredBy configuration actor request stamp response
+IsAnsweredAs configuration actor request stamp response (Err code) = Says response (refused code)
+
 -- the path says which of the two it is
 abbrev pub IsToldBy : Configuration → Badges → Actor → Request → List (List ℕ) → Response (Full (List ℕ)) → Type 0
 IsToldBy configuration badges actor request stamp response =
-    MatchOption (app_of request) (IsAnsweredBy configuration actor request stamp response) (λ call. IsTold configuration badges actor request call stamp response)
+    MatchOption (app_of request) (IsAnsweredAs configuration actor request stamp response (call_of configuration request))
+    (λ call. IsTold configuration badges actor request call stamp response)
 
 -- the client is the one whose access token the request carries
 abbrev pub IsCarriedOut : Configuration → Request → List (List ℕ) → Response (Full (List ℕ)) → Type 0

@@ -1,17 +1,21 @@
 -- How an HTTP request is answered.
-use Rattle.std.specs.Prelude.{ℕ, List, Option, IfSome, MatchOption}
+use Rattle.std.specs.Prelude.{ℕ, List, Option, IfSome, MatchOption, Result, Ok, Err}
 use Rattle.http.specs.declared.request.Parts.{Parts}
 use Rattle.http.specs.declared.response.Response.{Response}
 use Rattle.http_body_util.specs.declared.full.Full.{Full}
 use Rattle.server_admission.specs.Arrival.{body_in}
 use Rattle.server_admission.specs.declared.arrival.Arrived.{Arrived}
-use Rattle.mds_request.specs.Configuration.{Configuration, actor_of}
+use Rattle.mds_request.specs.Call.{call_of}
+use Rattle.mds_request.specs.Configuration.{Configuration}
 use Rattle.mds_request.specs.Request.{Request}
 use Rattle.mds_request.specs.Reply.{Reply, refused}
+use Rattle.mds_request.specs.declared.call.Call.{Call}
+use Rattle.mds_request.specs.declared.call.Call.TheVariants as call
+use Rattle.mds_request.specs.declared.code.Code.{Code}
 use Rattle.mds_request.specs.declared.config.Actor.{Actor}
 use Rattle.mds_request.specs.declared.config.Actor.TheVariants.{Author, Operator, Nobody}
 use Rattle.server_state.specs.HttpRequest.{request_in}
-use Rattle.server_state.specs.Early.{early, unknown}
+use Rattle.server_state.specs.Early.{unheard}
 use Rattle.server_state.specs.Response.{Says}
 use Rattle.server_state.specs.Turn.{DeskReplies, RoomReplies, SaysOne}
 
@@ -22,19 +26,21 @@ TurnGives configuration (Operator place) request reply = DeskReplies configurati
 TurnGives configuration Author request reply = RoomReplies configuration request reply
 TurnGives configuration Nobody request reply = ⊥
 
--- the response is the reply of a turn of the client whose access token the request carries
-abbrev pub IsCarriedOut : Configuration → Request → Response (Full (List ℕ)) → Type 0
-IsCarriedOut configuration request response = SaysOne (TurnGives configuration (actor_of configuration request.token) request) response
+-- A call of the author is answered by one turn of the room, and one of an operator by one turn of its own desk. What
+-- the table of calls refuses is answered with that refusal, without a turn.
+abbrev pub IsAnsweredAs : Configuration → Request → Response (Full (List ℕ)) → Result Call Code → Type 0
+IsAnsweredAs configuration request response (Ok (call.Author own)) = SaysOne (RoomReplies configuration request) response
+IsAnsweredAs configuration request response (Ok (call.Operator place own)) = SaysOne (DeskReplies configuration place request) response
+IsAnsweredAs configuration request response (Err code) = Says response (refused code)
 
--- of requests with a whole body, an anonymous one is refused for its access token, and any other is carried out
+-- a request with a whole body is answered as its call
 abbrev pub IsAnswered : Configuration → Request → Response (Full (List ℕ)) → Type 0
-IsAnswered configuration request response =
-    MatchOption (unknown (actor_of configuration request.token)) (IsCarriedOut configuration request response) (λ code. Says response (refused code))
+IsAnswered configuration request response = IsAnsweredAs configuration request response (call_of configuration request)
 
--- The first early refusal that applies is the response. Where none applies, the request of this head and body is
--- carried out at this moment.
+-- A request without a moment, or without a body within its limit, is refused so. Any other is answered: that of this
+-- head and body at this moment.
 abbrev pub Responds : Configuration → Parts → Arrived → Option ℕ → Response (Full (List ℕ)) → Type 0
 Responds configuration parts arrived at response =
-    MatchOption (early configuration parts arrived at)
-    (IfSome at (λ moment. IsCarriedOut configuration (request_in parts (body_in arrived) moment) response))
+    MatchOption (unheard arrived at)
+    (IfSome at (λ moment. IsAnswered configuration (request_in parts (body_in arrived) moment) response))
     (λ code. Says response (refused code))

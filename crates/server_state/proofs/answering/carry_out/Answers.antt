@@ -36,5 +36,5 @@ returns-in-Some g c =
 pub returns-in-Err : goal.returns-in-Err
 returns-in-Err g c =
     of_ok c.response-in-Err.result (λ response says.
-    refusal_answered g.K.HallName.configuration (request_heard c.args.heard) c.from.result response says c.in-Err.code c.args.heard.within (c.requires.resolved ∙ c.in-Err.is) c.from.ensures)
+    refusal_answered g.K.HallName.configuration (request_heard c.args.heard) c.from.result response says c.in-Err.code (c.requires.resolved ∙ c.in-Err.is) c.from.ensures)
     c.response-in-Err.ensures
