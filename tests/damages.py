@@ -151,7 +151,7 @@ def is_kept(city, journal, err):
         yield f"{len(after.texts)} texts are read of it, and {len(before.texts)} stood whole"
     if kept(city) != ([rest] if rest else []):
         yield f"{len(rest)} bytes aren't whole, and {[len(it) for it in kept(city)]} are kept"
-    said = f"ruffletuff: {len(rest)} bytes that weren't synced, from byte {before.whole} on, are cut off the journal".encode()
+    said = f"ruffletuff: {len(rest)} bytes behind the last whole record, from byte {before.whole} on, are cut off the journal".encode()
     if bool(rest) != (said in err):
         yield f"it says {err[:300]!r}"
     if journal and before.whole and not before.texts and not is_front_of_first(journal):

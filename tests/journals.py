@@ -230,7 +230,7 @@ def is_started_from(small, journal):
         with city.serve() as server:
             yield from is_as_replayed(server, city, small.replay)
             cut = len(journal) - found.whole
-            said = f"ruffletuff: {cut} bytes that weren't synced, from byte {found.whole} on, are cut off the journal".encode()
+            said = f"ruffletuff: {cut} bytes behind the last whole record, from byte {found.whole} on, are cut off the journal".encode()
             if (end := server.end())[:2] != (0, b"") or end[2].startswith(said) != bool(cut):
                 yield f"it ends with {end}"
         if city.audit()[1] != small.lines[: max(0, len(found.texts) - 1)]:

@@ -48,7 +48,7 @@ fn count_bytes<R: Files<File = File> + AllocGlobal>(rt: &R, folder: &str, counte
 fn report_cut<R: Eprint>(rt: &R, cut: Option<CutTail>) {
     if let Some(CutTail { from, count }) = cut {
         let _ = eprintln!(rt;
-            "ruffletuff: {count} bytes that weren't synced, from byte {from} on, are cut off the journal, and kept in a new journal.cut"
+            "ruffletuff: {count} bytes behind the last whole record, from byte {from} on, are cut off the journal, and kept in a new journal.cut"
         );
     }
 }
