@@ -164,6 +164,7 @@ fn cut_tail<M: Storage, A: TailStore>(
     ensures opened { OnOk result (refusal_of (ending_of whole (drop whole bytes.now)) ≡ None) }
     ensures kept_first { M.holds medium.new bytes.now ⊎ A.has_kept aside.new whole (drop whole bytes.now) }
     ensures refused { (fault : JournalOpenFault) → refusal_of (ending_of whole (drop whole bytes.now)) ≡ Some fault → IsErrOf result fault }
+    ensures stays { (fault : JournalOpenFault) → refusal_of (ending_of whole (drop whole bytes.now)) ≡ Some fault → M.holds medium.new bytes.now }
 {
     let behind = &bytes[whole..];
     if let Some(fault) = refusal_of(ending_of(whole as u64, behind)) {
