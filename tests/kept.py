@@ -9,6 +9,7 @@ import subprocess
 import sys
 import tempfile
 
+import packages
 from wire import SECONDS, Closed, Link, Server, configuration, first_line, free_port
 
 # As long as a program may take that ends by itself.
@@ -163,26 +164,33 @@ def told_moment(body):
 
 
 class Tried:
-    """What was tried, and what of it failed."""
+    """What was tried, what of it failed, and what was left out."""
 
     def __init__(self):
-        self.passed = self.failed = 0
+        self.passed = self.failed = self.skipped = 0
+
+    def add(self, passed, failed, skipped):
+        """Counts what passed, failed and was skipped elsewhere."""
+        self.passed, self.failed, self.skipped = self.passed + passed, self.failed + failed, self.skipped + skipped
 
     def one(self, name, found):
-        """Counts a test by its faults, or why they can't be told."""
-        faults = []
+        """Counts a test by its faults, or why they can't be told; one that can't be done here is left out."""
+        faults, is_done = [], True
         try:
             faults.extend(found)
+        except packages.LeftOut as why:
+            is_done = False
+            self.add(*packages.leave_out_since(name.replace("_", " "), why))
         except (OSError, ValueError, Closed, subprocess.SubprocessError) as fault:
             faults.append(repr(fault))
         for fault in faults:
             print(f"{name}: {fault}", flush=True)
-        self.passed += not faults
+        self.passed += is_done and not faults
         self.failed += bool(faults)
 
     def told(self):
         """Says how many passed, and gives the status to end with."""
-        print(f"{self.passed} passed, {self.failed} failed")
+        print(packages.count(self.passed, self.failed, self.skipped))
         return 1 if self.failed else 0
 
 

@@ -351,20 +351,18 @@ def main():
     parser.add_argument("seconds", type=float, nargs="?", default=LASTS)
     parser.add_argument("--told", action="store_true", help="how long a change takes is told and not judged")
     options = parser.parse_args()
-    program, found, skipped = os.path.abspath(options.program), Tried(), 0
+    program, found = os.path.abspath(options.program), Tried()
     found.one("lines that are no reports", lines_that_are_none(program))
     try:
         beside_many_lines(found, program, options.seconds, None if options.told else HIGH * PATIENCE)
         if packages.program("cc"):
             on_a_slow_disk(found, program, options.seconds)
         else:
-            _, failed, skipped = packages.leave_out("changes on a slow disk", "cc")
-            found.failed += failed
+            found.add(*packages.leave_out("changes on a slow disk", "cc"))
     except (OSError, ValueError) as fault:
         print(repr(fault))
         found.failed += 1
-    print(packages.count(found.passed, found.failed, skipped))
-    return 1 if found.failed else 0
+    return found.told()
 
 
 if __name__ == "__main__":
