@@ -16,6 +16,25 @@ from wire import SECONDS, Closed, Link, Server, configuration, first_line, free_
 END_SECONDS = 3 * SECONDS
 # What a program says before it is ready, where everyone is told what is meant for everyone.
 TELLS_EVERYONE = b"tells everyone at /mds/2.0\n"
+# Each sync of a program waits for as long as a file is there: loaded before the program's own libraries.
+HELD_SYNC = b"""
+#define _GNU_SOURCE
+#include <dlfcn.h>
+#include <stdlib.h>
+#include <unistd.h>
+
+typedef int sync_of(int);
+
+static int held(const char *name, int file) {
+    const char *by = getenv("SYNC_HELD_BY");
+    while (by && !access(by, F_OK)) usleep(5000);
+    return ((sync_of *)dlsym(RTLD_NEXT, name))(file);
+}
+
+int fsync(int file) { return held("fsync", file); }
+
+int fdatasync(int file) { return held("fdatasync", file); }
+"""
 
 
 @functools.cache
@@ -98,6 +117,14 @@ def slowed(folder, microseconds):
     source = os.path.join(os.path.dirname(os.path.abspath(__file__)), "..", "bench", "slow_sync.c")
     subprocess.run(["cc", "-O2", "-shared", "-fPIC", "-o", library, source, "-ldl"], check=True)
     return os.environ | {"LD_PRELOAD": library, "SYNC_MICROSECONDS": str(microseconds)}
+
+
+def held(folder, file):
+    """The environment of a program each of whose syncs waits for as long as a file is there. What it takes is built into the folder, by a
+    compiler of C."""
+    library = os.path.join(folder, "held_sync.so")
+    subprocess.run(["cc", "-O2", "-shared", "-fPIC", "-o", library, "-x", "c", "-", "-ldl"], input=HELD_SYNC, check=True)
+    return os.environ | {"LD_PRELOAD": library, "SYNC_HELD_BY": file}
 
 
 class City:
