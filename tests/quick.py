@@ -126,7 +126,7 @@ def parts(room):
         made.append(Part(name, minutes, needs, call, behind))
         return [made[-1]]
 
-    for name, minutes in (("ruffletuff", 4), ("mds_replay", 1.5)):
+    for name, minutes in (("ruffletuff", 4), ("mds_replay", 1)):
         program, slow[name] = unproved.proved(name), not unproved.proved(name)
         program = program or unproved.kept(name)
         needs = [] if program else add(f"{name} is built unproved", minutes, [], lambda name=name: program_of(name))
