@@ -14,15 +14,15 @@
 # bench    times mds_replay on generated input, and a program in plain Rust beside it, in three forms (minutes, once built)
 # bench-journal  times ruffletuff beside mds_serve, SQLite and PostgreSQL, thinning and a large start (minutes, once built)
 # stress   publishes 500 batches at mds_serve while 8 operators ask, and checks each reply against a replay (seconds, once built)
-# dist     packs the built programs: a tar and a Debian package in out/dist (minutes, once built; seconds again for the same commit)
+# dist     packs the built programs: a tar and a Debian package in out/dist (not timed, once built; seconds again for the same commit)
 # dist-try  installs that package into a clean Debian root and asks its server (as root, minutes)
 # help     these lines
 
 .PHONY: demo test prove edits build server plain serve try report test-web shots openapi bench bench-journal stress dist dist-try help
 
-# What each takes where nothing is built, on a machine that does nothing else.
-TEST_TIME := about 15 minutes on two processors
-PROVE_TIME := an hour and more on four processors, two on two
+# What each takes where nothing is built, as far as it was seen; README.md and docs/CONTRIBUTING.md have the same.
+TEST_TIME := 14 to 22 minutes
+PROVE_TIME := more than an hour and a half on four processors
 BUILD_TIME := about 40 minutes
 SERVER_TIME := about an hour
 # And once it is built.
@@ -32,7 +32,7 @@ WEB_TIME := some minutes
 REPORT_TIME := a minute, and several before a proof
 BENCH_TIME := some minutes
 STRESS_TIME := seconds
-DIST_TIME := some minutes for a commit, since ruffletuff is proved once more with its name in it, and seconds again
+DIST_TIME := a proof of ruffletuff with its commit in it, which isn't timed, and seconds again for the same commit
 DIST_TRY_TIME := about two minutes
 
 PROGRAM := crates/mds_replay/out/mds_replay

@@ -424,17 +424,15 @@ WITH = {curl_is_answered: "curl", a_page_of_another_origin: "chromium"}
 def main():
     if len(sys.argv) != 2:
         sys.exit(__doc__)
-    program, found, skipped = os.path.abspath(sys.argv[1]), Tried(), 0
+    program, found = os.path.abspath(sys.argv[1]), Tried()
     for call in ALWAYS:
         found.one(call.__name__.replace("_", " "), call(program))
     for call, wanted in WITH.items():
         if packages.program(os.environ.get(wanted.upper(), wanted)):
             found.one(call.__name__.replace("_", " "), call(program))
         else:
-            passed, failed, left = packages.leave_out(call.__name__.replace("_", " "), wanted)
-            found.passed, found.failed, skipped = found.passed + passed, found.failed + failed, skipped + left
-    print(packages.count(found.passed, found.failed, skipped))
-    return 1 if found.failed else 0
+            found.add(*packages.leave_out(call.__name__.replace("_", " "), wanted))
+    return found.told()
 
 
 if __name__ == "__main__":

@@ -7,8 +7,8 @@
 
 What a crate is, is the first sentence of its src/lib.rt or src/main.rt. Of the crates that crates.txt lists for it, the table has those
 that no other of them stands on. Each crate stands in one layer of LAYERS, and uses crates of that layer and of those before it alone.
-No crate is listed for one whose files don't name it, and each that they cite is. The last line of --write and --check is
-'N passed, M failed', over the rows of the table and whatever is wrong with the crates.
+No crate is listed for one whose files don't name it, and each that they cite, or library of the kit, is, but for `std`. The last line of
+--write and --check is 'N passed, M failed', over the rows of the table and whatever is wrong with the crates.
 """
 import difflib
 import re
@@ -39,10 +39,15 @@ LAYERS = (
 )
 
 
-def own_crates():
-    """Each crate of crates.txt with those of this repository that are listed for it, in the order of the file."""
+def listed_crates():
+    """Each crate of crates.txt with all that is listed for it, in the order of the file."""
     lines = [line for line in (ROOT / "crates.txt").read_text().splitlines() if line and not line.startswith("#")]
-    listed = {name: rest.split() for name, _, rest in (line.partition(":") for line in lines)}
+    return {name: rest.split() for name, _, rest in (line.partition(":") for line in lines)}
+
+
+def own_crates():
+    """Each crate of crates.txt with those of this repository that are listed for it."""
+    listed = listed_crates()
     return {name: [it for it in rest if it in listed] for name, rest in listed.items()}
 
 
@@ -89,16 +94,19 @@ def table(crates):
 
 
 def misnamed(crates):
-    """The crates that crates.txt lists for one whose files don't name them, since each doubles what rt sums over; and those that files name
-    and crates.txt doesn't list, which no check of sources tells where a proof cites them."""
-    found = []
+    """The crates that crates.txt lists for one whose files don't name them, since each doubles what rt sums over; and the crates and the
+    kit's libraries that a file cites by `Rattle.NAME` and that aren't listed for its crate. The prover is passed what is listed, and `std`:
+    it refuses another, whatever those stand on, and no check of sources tells so."""
+    found, listed = [], listed_crates()
     for name, used in crates.items():
         folder = ROOT / "crates" / name
         files = [it for part in ("src", "specs", "proofs") for it in (folder / part).rglob("*") if it.suffix in (".rt", ".antt")]
-        text = "\n".join(it.read_text(encoding="utf-8") for it in files)
+        texts = {it.relative_to(ROOT): it.read_text(encoding="utf-8") for it in sorted(files)}
+        text = "\n".join(texts.values())
         found += [f"crates.txt: {name} names nothing of {it}" for it in used if not re.search(rf"\b{it}::|\bRattle\.{it}\b|\buse {it}\b", text)]
-        cited = set(re.findall(r"\bRattle\.(\w+)\.", text)) & set(crates)
-        found += [f"crates.txt: {name} cites {it}, which isn't listed for it" for it in sorted(cited - {name, *used})]
+        for path, text in texts.items():
+            cited = set(re.findall(r"\bRattle\.(\w+)", text)) - {name, "std", *listed[name]}
+            found += [f"{path} cites {it}, which crates.txt doesn't list for {name}" for it in sorted(cited)]
     return found
 
 

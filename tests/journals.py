@@ -7,8 +7,8 @@ its ends.
 A small journal is changed in each byte, and cut at each length. What the program may make of it is worked out here a second time, by
 tests/records.py: it goes on from a front of the journal, or refuses it by name; what was synced before the last group is never cut
 silently. With a stride only each so many bytes. The full disk is a file system in memory, and the failing one a file on such a one that
-seems larger, where these may be mounted; else a test is left out, and said so. Takes up to two minutes. Prints what differs, and last
-'N passed, M failed'; ends with 1 where one failed.
+seems larger; where these may not be mounted a test is left out (packages.py). Takes up to two minutes. Prints what differs, and last 'N
+passed, M failed'; ends with 1 where one failed.
 """
 
 import argparse
@@ -26,6 +26,7 @@ import threading
 import time
 from concurrent.futures import ThreadPoolExecutor
 
+import packages
 import records
 from kept import City, Tried, ended, line_of, replayed, split, told_moment
 from messages import code
@@ -691,11 +692,10 @@ def done(*words):
 
 @contextlib.contextmanager
 def small_disk(room, bytes_):
-    """A disk of so many bytes at a folder; None where none may be mounted."""
+    """A disk of so many bytes at a folder. Where none may be mounted what wants it is left out."""
     os.mkdir(place := os.path.join(room, "disk"))
     if not done("mount", "-t", "tmpfs", "-o", f"size={bytes_}", "tmpfs", place):
-        yield None
-        return
+        raise packages.LeftOut(packages.MAY_MOUNT)
     try:
         yield place
     finally:
@@ -704,8 +704,8 @@ def small_disk(room, bytes_):
 
 @contextlib.contextmanager
 def failing_disk(below):
-    """A disk in a file of the small one `below`, which seems larger: what doesn't fit fails once it is synced. Its device, and its folder;
-    None where none may be mounted."""
+    """A disk in a file of the small one `below`, which seems larger: what doesn't fit fails once it is synced. Its device, and its folder.
+    Where no file may be mounted what wants it is left out."""
     file, place = os.path.join(below, "file"), os.path.join(os.path.dirname(below), "failing")
     os.mkdir(place)
     with open(file, "wb") as made:
@@ -720,7 +720,9 @@ def failing_disk(below):
         queue = f"/sys/block/{os.path.basename(device)}/queue/max_sectors_kb"
         with contextlib.suppress(OSError), open(queue, "w", encoding="ascii") as most:
             most.write(str(BLOCK // 1024))
-        yield (device, place) if device and done("mount", device, place) else None
+        if not device or not done("mount", device, place):
+            raise packages.LeftOut("run as root, where mkfs.ext4 is and a file may be mounted")
+        yield device, place
     finally:
         done("umount", "-l", place)
         if device:
@@ -730,9 +732,6 @@ def failing_disk(below):
 def a_full_disk(small):
     """On a full disk a change is refused, and nothing is changed; reads go on, and once there is room changes do."""
     with tempfile.TemporaryDirectory() as room, small_disk(room, DISK) as disk:
-        if disk is None:
-            print("no disk may be mounted here: a full one isn't tried")
-            return
         city = City(small.program, disk, BOTH)
         with open(filler := os.path.join(disk, "filler"), "wb") as file:
             file.write(bytes(FILLED))
@@ -795,11 +794,7 @@ def a_disk_that_fails(small):
     with contextlib.ExitStack() as stack:
         room = stack.enter_context(tempfile.TemporaryDirectory())
         below = stack.enter_context(small_disk(room, THERE))
-        found = stack.enter_context(failing_disk(below)) if below else None
-        if found is None:
-            print("no disk may be mounted on a file here: one that fails isn't tried")
-            return
-        device, disk = found
+        device, disk = stack.enter_context(failing_disk(below))
         city = City(small.program, disk, BOTH)
         with city.serve() as server:
             answer, count = until_not_taken(server, more=LARGER)

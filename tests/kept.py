@@ -9,12 +9,32 @@ import subprocess
 import sys
 import tempfile
 
+import packages
 from wire import SECONDS, Closed, Link, Server, configuration, first_line, free_port
 
 # As long as a program may take that ends by itself.
 END_SECONDS = 3 * SECONDS
 # What a program says before it is ready, where everyone is told what is meant for everyone.
 TELLS_EVERYONE = b"tells everyone at /mds/2.0\n"
+# Each sync of a program waits for as long as a file is there: loaded before the program's own libraries.
+HELD_SYNC = b"""
+#define _GNU_SOURCE
+#include <dlfcn.h>
+#include <stdlib.h>
+#include <unistd.h>
+
+typedef int sync_of(int);
+
+static int held(const char *name, int file) {
+    const char *by = getenv("SYNC_HELD_BY");
+    while (by && !access(by, F_OK)) usleep(5000);
+    return ((sync_of *)dlsym(RTLD_NEXT, name))(file);
+}
+
+int fsync(int file) { return held("fsync", file); }
+
+int fdatasync(int file) { return held("fdatasync", file); }
+"""
 
 
 @functools.cache
@@ -99,6 +119,14 @@ def slowed(folder, microseconds):
     return os.environ | {"LD_PRELOAD": library, "SYNC_MICROSECONDS": str(microseconds)}
 
 
+def held(folder, file):
+    """The environment of a program each of whose syncs waits for as long as a file is there. What it takes is built into the folder, by a
+    compiler of C."""
+    library = os.path.join(folder, "held_sync.so")
+    subprocess.run(["cc", "-O2", "-shared", "-fPIC", "-o", library, "-x", "c", "-", "-ldl"], input=HELD_SYNC, check=True)
+    return os.environ | {"LD_PRELOAD": library, "SYNC_HELD_BY": file}
+
+
 class City:
     """A folder and a configuration, on which the program is started as often as one likes."""
 
@@ -163,26 +191,33 @@ def told_moment(body):
 
 
 class Tried:
-    """What was tried, and what of it failed."""
+    """What was tried, what of it failed, and what was left out."""
 
     def __init__(self):
-        self.passed = self.failed = 0
+        self.passed = self.failed = self.skipped = 0
+
+    def add(self, passed, failed, skipped):
+        """Counts what passed, failed and was skipped elsewhere."""
+        self.passed, self.failed, self.skipped = self.passed + passed, self.failed + failed, self.skipped + skipped
 
     def one(self, name, found):
-        """Counts a test by its faults, or why they can't be told."""
-        faults = []
+        """Counts a test by its faults, or why they can't be told; one that can't be done here is left out."""
+        faults, is_done = [], True
         try:
             faults.extend(found)
+        except packages.LeftOut as why:
+            is_done = False
+            self.add(*packages.leave_out_since(name.replace("_", " "), why))
         except (OSError, ValueError, Closed, subprocess.SubprocessError) as fault:
             faults.append(repr(fault))
         for fault in faults:
             print(f"{name}: {fault}", flush=True)
-        self.passed += not faults
+        self.passed += is_done and not faults
         self.failed += bool(faults)
 
     def told(self):
         """Says how many passed, and gives the status to end with."""
-        print(f"{self.passed} passed, {self.failed} failed")
+        print(packages.count(self.passed, self.failed, self.skipped))
         return 1 if self.failed else 0
 
 

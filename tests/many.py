@@ -7,15 +7,15 @@ Expects the answers that docs/HTTP.md gives for each line, worked out by hand, a
 that was asked the same before; that an answer of many lines has one line for each that isn't empty, in order; that a body over the limit,
 the author, another method, an anonymous client and more lines than may wait are refused and change nothing; that after SIGKILL behind the answer
 all that was taken is there again, and that the journal has an entry for each report that was taken, in the order of the lines; and that a
-full disk refuses all of the lines or none. Prints what is otherwise, and last 'N passed, M failed'; ends with 1 where one failed.
+full disk refuses all of the lines or none; where no small disk may be mounted that is left out (packages.py). Prints what is otherwise, and
+last 'N passed, M failed'; ends with 1 where one failed.
 """
 
 import json
-import subprocess
 import sys
 import tempfile
-import time
 
+from journals import small_disk
 from kept import Alone, City, split, tried
 from wire import AUTHOR, FIRST, PATIENCE, SECOND, Link, configuration, report, request
 
@@ -163,38 +163,24 @@ def kept(program):
     yield from ()
 
 
-def mounted(place):
-    """Whether a small disk could be had there."""
-    ran = subprocess.run(["mount", "-t", "tmpfs", "-o", f"size={FULL}", "tmpfs", place], stderr=subprocess.DEVNULL, check=False)
-    return ran.returncode == 0
-
-
-def full_disk(program):
+def many_on_a_full_disk(program):
     """On a full disk all of the lines are refused or none; what is refused isn't there, and the server goes on."""
-    with tempfile.TemporaryDirectory(prefix="many-") as room:
-        if not mounted(room):
-            print("no small disk could be had: not tried")
-            return
-        try:
-            city = City(program, room, configuration(9000))
-            with city.serve() as server:
-                taken = 0
-                for number in range(40):
-                    texts = [report(100 * number + n) for n in range(100)]
-                    answer = server.ask("POST", PATH, FIRST, b"\n".join(texts))
-                    if answer.status == 503:
-                        refused(answer, 503, "no_room", "a full disk")
-                        break
-                    lines_are(answer, [line_of(200, NEW)] * 100, "room for all")
-                    taken += 100
-                expect(taken < 4000, "the disk was never full")
-                expect(len(vehicles(server)) == taken, f"{len(vehicles(server))} vehicles of {taken}")
-                expect(server.ask("GET", "/policies").status == 200, "a question")
-        finally:
-            time.sleep(0.1)
-            subprocess.run(["umount", "-l", room], check=False)
+    with tempfile.TemporaryDirectory(prefix="many-") as room, small_disk(room, FULL) as disk:
+        with City(program, disk, configuration(9000)).serve() as server:
+            taken = 0
+            for number in range(40):
+                texts = [report(100 * number + n) for n in range(100)]
+                answer = server.ask("POST", PATH, FIRST, b"\n".join(texts))
+                if answer.status == 503:
+                    refused(answer, 503, "no_room", "a full disk")
+                    break
+                lines_are(answer, [line_of(200, NEW)] * 100, "room for all")
+                taken += 100
+            expect(taken < 4000, "the disk was never full")
+            expect(len(vehicles(server)) == taken, f"{len(vehicles(server))} vehicles of {taken}")
+            expect(server.ask("GET", "/policies").status == 200, "a question")
     yield from ()
 
 
 if __name__ == "__main__":
-    sys.exit(tried(__doc__, (each_line, ends_of_lines, as_single_requests, refusals, kept, full_disk)))
+    sys.exit(tried(__doc__, (each_line, ends_of_lines, as_single_requests, refusals, kept, many_on_a_full_disk)))

@@ -1,7 +1,11 @@
-"""What tests want that a fresh machine may not have: Python's modules and programs of Debian's packages.
+"""What tests want that a fresh machine may not have: Python's modules and programs of Debian's packages, and the leave to mount a disk.
 
-A test whose packages are missing is left out: it prints 'left out: WHAT: apt-get install PACKAGE..', and its last line counts it: 'N
-passed, M failed, K skipped'. With GATE=1, as in the merge gate, it has failed instead.
+    packages.py PASSED FAILED < TEXT
+
+A test that lacks some of it is left out: it prints 'left out: WHAT: WHY', where WHY is 'apt-get install PACKAGE..' or begins with 'run as
+root', and its last line counts it: 'N passed, M failed, K skipped'. With GATE=1, as in the merge gate, it has failed instead. As a program
+this prints what is left out in a text of many tests, a line for each reason, with packages in the last of them; and then the line that
+counts all.
 """
 
 import os
@@ -25,7 +29,13 @@ PACKAGES = {
 PROBES = {"jsonschema": "jsonschema.Draft202012Validator"}
 SECONDS = 30
 COUNT = re.compile(r"^(\d+) passed, (\d+) failed(?:, (\d+) skipped)?$", re.M)
-LEFT_OUT = re.compile(r"^left out: (.*): apt-get install (.*)$", re.M)
+INSTALL = "apt-get install "
+MAY_MOUNT = "run as root, who may mount"
+LEFT_OUT = re.compile(rf"^left out: (.*): ({INSTALL}.*|run as root.*)$", re.M)
+
+
+class LeftOut(Exception):
+    """A test can't be done here, for this reason."""
 
 
 def count(passed, failed, skipped=0):
@@ -33,11 +43,29 @@ def count(passed, failed, skipped=0):
     return f"{passed} passed, {failed} failed" + (f", {skipped} skipped" if skipped else "")
 
 
-def leave_out(what, *names):
-    """Says what is left out for want of these modules or programs; how many passed, failed and were skipped by that."""
+def told(passed, failed, text):
+    """The lines behind many tests: what they left out, by what they printed, and their count."""
+    by_reason, wanted = {}, {}
+    for what, why in LEFT_OUT.findall(text):
+        reason = INSTALL if why.startswith(INSTALL) else why
+        by_reason.setdefault(reason, []).append(what)
+        if reason == INSTALL:
+            wanted |= dict.fromkeys(why.removeprefix(INSTALL).split())
+    reasons = sorted(by_reason, key=lambda reason: reason == INSTALL)
+    lines = [f"left out: {', '.join(by_reason[it])}: {it}{' '.join(wanted) if it == INSTALL else ''}" for it in reasons]
+    return "\n".join([*lines, count(passed, failed, sum(map(len, by_reason.values())))])
+
+
+def leave_out_since(what, why):
+    """Says what is left out and why; how many passed, failed and were skipped by that."""
     fails = os.environ.get("GATE") == "1"
-    print(f"{'failed' if fails else 'left out'}: {what}: apt-get install {' '.join(PACKAGES[it] for it in names)}", flush=True)
+    print(f"{'failed' if fails else 'left out'}: {what}: {why}", flush=True)
     return (0, 1, 0) if fails else (0, 0, 1)
+
+
+def leave_out(what, *names):
+    """The same for want of these modules or programs."""
+    return leave_out_since(what, INSTALL + " ".join(PACKAGES[it] for it in names))
 
 
 def end_without(what, *names):
@@ -76,3 +104,7 @@ def need_modules(what, *modules):
         end_without(what, *(it for it in modules if not has(sys.executable, [it])))
     if python != sys.executable:
         os.execv(python, [python, "-B", *sys.argv])
+
+
+if __name__ == "__main__":
+    print(told(*map(int, sys.argv[1:]), sys.stdin.buffer.read().decode(errors="replace")))

@@ -15,9 +15,10 @@ in docs/audit/DEFINITIONS.md (definitions.py), the table of crates in docs/ARCHI
 (web/run.py), a short stress (stress.py), some refused growths of memory (growths.py) and the check of docs/openapi.yaml (openapi.py). The
 other messages, and mds_serve, which serves by the same crates, are tried by `make prove` alone.
 
-What wants a package that isn't there is left out, which the last line but one names, with the command that gets it; with GATE=1 it has
-failed (packages.py). What a part prints comes once the part is over, and of one that failed the last lines again behind all parts. Last
-comes 'N passed, M failed' over all parts, ', K skipped' behind it where some were left out; ends with 1 where one failed.
+What wants a package that isn't there, or the leave to mount a disk, is left out: the lines before the last name it, with the command that
+gets the packages; with GATE=1 it has failed (packages.py). What a part prints comes once the part is over, and of one that failed the last
+lines again behind all parts. Last comes 'N passed, M failed' over all parts, ', K skipped' behind it where some were left out; ends with 1
+where one failed.
 """
 
 import contextlib
@@ -125,7 +126,7 @@ def parts(room):
         made.append(Part(name, minutes, needs, call, behind))
         return [made[-1]]
 
-    for name, minutes in (("ruffletuff", 4), ("mds_replay", 1.5)):
+    for name, minutes in (("ruffletuff", 4), ("mds_replay", 1)):
         program, slow[name] = unproved.proved(name), not unproved.proved(name)
         program = program or unproved.kept(name)
         needs = [] if program else add(f"{name} is built unproved", minutes, [], lambda name=name: program_of(name))
@@ -220,17 +221,13 @@ def main():
                 it.join()
         finally:
             end_all()
-    passed, failed, skipped = (sum(getattr(it, which) for it in todo) for which in ("passed", "failed", "skipped"))
+    passed, failed = (sum(getattr(it, which) for it in todo) for which in ("passed", "failed"))
     print(f"in {(time.monotonic() - begun) / 60:.1f} minutes; nothing is proved by this (make prove)")
     for it in todo:
         if it.failed:
             print(f"failed: {it.name}")
             print("".join(f"   {line}\n" for line in it.text.splitlines()[-TOLD_AGAIN:]), end="")
-    left_out = packages.LEFT_OUT.findall("\n".join(it.text for it in todo))
-    if left_out:
-        wanted = dict.fromkeys(word for _, words in left_out for word in words.split())
-        print(f"left out: {', '.join(what for what, _ in left_out)}: apt-get install {' '.join(wanted)}")
-    print(packages.count(passed, failed, skipped))
+    print(packages.told(passed, failed, "\n".join(it.text for it in todo)))
     return 1 if failed else 0
 
 

@@ -6,8 +6,8 @@
 The table of tests/route_table.py is worked out by hand from docs/PROTOCOL.md and docs/HTTP.md: of each path of the protocol, of /app, of
 the page, of /mds/2.0 and of nothing, by seven methods, what the author, an operator, a wrong access token and none are told. It is asked
 with room on the disk, where everyone is told what is published; of /mds/2.0 also where nobody is; and once more on a full disk, where what
-may change something alone says `no_room` (as root, where a small disk may be mounted; else that is left out, and said so). mds_serve has
-the paths of the protocol alone.
+may change something alone says `no_room`; where no small disk may be mounted that is left out (packages.py). mds_serve has the paths of the
+protocol alone.
 
 Then 200 refused requests of each kind are asked of ruffletuff: nothing is synced, kept or published by them, by what its control port
 counts; and a request that only reads isn't counted as a change.
@@ -229,9 +229,6 @@ def says_it_once(server):
 def without_room(tried, program):
     """The table on a full disk: what may change something alone is refused for it, and nothing is kept."""
     with tempfile.TemporaryDirectory() as room, small_disk(room, DISK) as disk:
-        if disk is None:
-            print("no disk may be mounted here: the table isn't tried on a full one")
-            return
         held = City(program, disk, city(True))
         with open(os.path.join(disk, "filler"), "wb") as file:
             file.write(bytes(FILLED))
@@ -436,12 +433,13 @@ def main():
         begun = time.monotonic()
         try:
             call(found)
+        except packages.LeftOut as why:
+            found.add(*packages.leave_out_since(name, why))
         except (OSError, ValueError, Closed) as fault:
             print(f"{name}: {fault!r}")
             found.failed += 1
         print(f"{name}: {time.monotonic() - begun:.0f} s", flush=True)
-    print(packages.count(found.passed, found.failed))
-    return 1 if found.failed else 0
+    return found.told()
 
 
 if __name__ == "__main__":

@@ -10,12 +10,17 @@ and their 99th percentile, which may be 250 ms; with --told, where other work ru
 line that is no report has to be answered as if it were sent alone, and its reports are taken or told busy.
 
 Then the same beside a disk each of whose syncs takes 200 ms longer, and 64 connections over which the first operator sends single reports:
-those may wait, and are taken, or told busy once they have waited, and never that the disk has no room. It wants a compiler of C.
+those may wait, and are taken, or told busy once they have waited, and never that the disk has no room.
+
+Last a sync waits for as long as this test likes, and the first operator has as many changes behind it as it may. Each further one of its
+own has to be told busy, once it has paused as often as a request may, and not to be carried out; another operator's is accepted, and so is
+all of it once the disk goes on. Both want a compiler of C.
 
 A load lasts SECONDS. Prints what is otherwise, and last 'N passed, M failed'; ends with 1 where one failed.
 """
 
 import argparse
+import concurrent.futures
 import itertools
 import json
 import multiprocessing
@@ -29,7 +34,8 @@ import time
 import packages
 from beside import high_of
 from clients import draft_of_policy, policy, these_policies
-from kept import Alone, City, Tried, slowed
+from journals import until
+from kept import Alone, City, Tried, held, slowed
 from wire import AUTHOR, FIRST, PATIENCE, SECOND, SECONDS, Closed, Link, identifier, report, request
 
 THIRD = "charlie"
@@ -45,6 +51,9 @@ SINGLES, BODIES_BESIDE_SINGLES = 64, 4
 FIRST_SINGLE = 100_000  # the vehicle of the first of them: in no body
 SYNC_MICROSECONDS = 200_000
 LEAST_WAIT = 3  # seconds that a change has waited which is told busy
+SHARE = 4_096  # changes of one client that wait for the journal, at the most
+LEAST_PAUSED = 4.5  # seconds: 500 pauses of 10 ms, each of which a timer may cut short by one
+LONGEST = 6 * SECONDS  # for a change that waits for a disk that waits
 PAUSE = 0.1  # seconds between the changes of the third operator
 MOST_PUBLISHED = 512
 BUSY, NO_JSON = b'{"error":"busy"}', b'{"error":"bad_json"}'
@@ -325,6 +334,70 @@ def on_a_slow_disk(tried, program, seconds):
             under_load(tried, "on a slow disk", server, bodies, seconds, None, SINGLES)
 
 
+def asked(server, token, target, body):
+    """The answer to a change over a new connection, and how many seconds it took."""
+    begun = time.monotonic()
+    with server.link() as link:
+        link.socket.settimeout(LONGEST)
+        link.send(request("POST", target, token, body))
+        return link.answer(), time.monotonic() - begun
+
+
+def is_written_behind(journal, size):
+    """Whether a journal becomes longer than it was."""
+    end = time.monotonic() + SECONDS
+    while os.path.getsize(journal) <= size and time.monotonic() < end:
+        time.sleep(0.002)
+    return os.path.getsize(journal) > size
+
+
+def refused_at_last(pending):
+    """What is wrong with changes whose client's share stays used up: each is told busy, behind all of its pauses."""
+    times = []
+    for it in pending:
+        answer, waited = it.result()
+        times.append(waited)
+        if not is_told_busy(answer):
+            yield f"a change whose client's share is used up is answered {answer}"
+        elif waited < LEAST_PAUSED:
+            yield f"a change whose client's share is used up is told busy after {waited:.2f} s"
+    print(f"on a disk that waits: {len(times)} changes are told busy after {min(times):.2f} to {max(times):.2f} s", flush=True)
+
+
+def are_new(what, answer, count=None):
+    """Reports are taken, and none of their vehicles was known: one alone, or so many lines."""
+    if answer.status != 200 or answer.body != (NEW if count is None else (line_of(200, NEW) + b"\n") * count):
+        yield f"{what}: answered {answer}"
+
+
+def on_a_disk_that_waits(program):
+    """While a sync lasts, and an operator has as many changes behind it as it may, each more is told busy and isn't carried out."""
+    with tempfile.TemporaryDirectory(prefix="shares-") as room, concurrent.futures.ThreadPoolExecutor(8) as pool:
+        city, hold = City(program, room, configuration()), os.path.join(room, "hold")
+        with city.serve("--thin-at", "0", env=held(room, hold)) as server:
+            size = os.path.getsize(city.journal)
+            with open(hold, "wb"):
+                first = pool.submit(asked, server, FIRST, ONE, report(SHARE))
+            # What is written doesn't wait any more, so the whole share is left for what comes behind it. The answer to many lines keeps
+            # others of its client from their turn, from when it is counted until all of its lines wait.
+            is_held = is_written_behind(city.journal, size)
+            full = pool.submit(asked, server, FIRST, MANY, b"\n".join(report(it) for it in range(SHARE)))
+            if not is_held or until(server, "pending_replies", lambda count: count == 2) != 2:
+                yield "the disk doesn't wait"
+                return
+            late = [(ONE, report(SHARE + 1)), (ONE, report(SHARE + 2)), (MANY, report(SHARE + 3) + b"\n" + report(SHARE + 4))]
+            refused = [pool.submit(asked, server, FIRST, *it) for it in late]
+            other = pool.submit(asked, server, SECOND, ONE, report(1))
+            yield from refused_at_last(refused)
+            os.remove(hold)
+            yield from are_new("the change that the disk waited with", first.result()[0])
+            yield from are_new("as many as may wait behind it", full.result()[0], SHARE)
+            yield from are_new("another operator's", other.result()[0])
+            for target, body in late:
+                yield from are_new("one that was told busy, again", asked(server, FIRST, target, body)[0], 2 if target == MANY else None)
+            yield from ends_well(server)
+
+
 def lines_that_are_none(program):
     """A line that is no report is answered as if it were sent alone, in its place among reports."""
     none = (b"x", b" ", b"{}", b"[1]", b"\xff\xfe", b'{"device_id":', report(1).replace(b":5}", b":200}"), b"\r\r")
@@ -351,20 +424,19 @@ def main():
     parser.add_argument("seconds", type=float, nargs="?", default=LASTS)
     parser.add_argument("--told", action="store_true", help="how long a change takes is told and not judged")
     options = parser.parse_args()
-    program, found, skipped = os.path.abspath(options.program), Tried(), 0
+    program, found = os.path.abspath(options.program), Tried()
     found.one("lines that are no reports", lines_that_are_none(program))
     try:
         beside_many_lines(found, program, options.seconds, None if options.told else HIGH * PATIENCE)
         if packages.program("cc"):
             on_a_slow_disk(found, program, options.seconds)
+            found.one("on a disk that waits", on_a_disk_that_waits(program))
         else:
-            _, failed, skipped = packages.leave_out("changes on a slow disk", "cc")
-            found.failed += failed
+            found.add(*packages.leave_out("changes on a slow disk, and on one that waits", "cc"))
     except (OSError, ValueError) as fault:
         print(repr(fault))
         found.failed += 1
-    print(packages.count(found.passed, found.failed, skipped))
-    return 1 if found.failed else 0
+    return found.told()
 
 
 if __name__ == "__main__":

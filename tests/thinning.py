@@ -8,8 +8,8 @@ entries stay of its journal is worked out here a second time, from what is said 
 compared with one of the journal before, over HTTP in all that is asked for, and by mds_replay at the same moments. Then come configurations,
 folders and journals that are refused, a disk without room, a file that can't grow, and a journal of a day's reports, made by
 tests/records.py, whose thinning is killed at several moments. Then the journal is thinned while its city is served, under load, with
-kills, on a disk that fills up, and where it can't be. A full disk is a file system in memory, where one may be mounted; else that
-test is left out, and said so. Prints what differs, and last 'N passed, M failed'; ends with 1 where one failed.
+kills, on a disk that fills up, and where it can't be. A full disk is a file system in memory; where none may be mounted that test is left
+out (packages.py). Prints what differs, and last 'N passed, M failed'; ends with 1 where one failed.
 """
 
 import argparse
@@ -375,12 +375,9 @@ def fill(filler):
             filler.flush()
 
 
-def a_full_disk(run):
+def thinning_on_a_full_disk(run):
     """The same on a disk that has no room for a second journal; once there is room it is thinned."""
     with tempfile.TemporaryDirectory() as room, small_disk(room, DISK) as disk:
-        if disk is None:
-            print("no disk may be mounted here: a full one isn't tried")
-            return
         with run.copy(room=disk) as city, open(os.path.join(disk, "filler"), "wb") as filler:
             os.truncate(os.path.join(city.folder, "ballast"), 0)
             fill(filler)
@@ -567,9 +564,6 @@ def an_archive_that_can_not_be_written(run):
 def a_full_archive(run):
     """On a disk that has no room for the journal it isn't archived nor thinned; once there is room it is."""
     with tempfile.TemporaryDirectory() as room, small_disk(room, DISK) as disk:
-        if disk is None:
-            print("no disk may be mounted here: a full archive isn't tried")
-            return
         with run.copy() as city, open(os.path.join(disk, "filler"), "wb") as filler:
             fill(filler)
             yield from is_refused(city, 7, NOT_ARCHIVED + disk.encode() + b"\n", "--archive", disk, second=NO_ROOM)
@@ -805,9 +799,6 @@ def cannot_be_thinned_while_served(run):
 def a_disk_that_fills_up_while_served(run):
     """On a disk without room for a second journal the city is served on, and once there is room its journal is thinned."""
     with tempfile.TemporaryDirectory() as room, small_disk(room, DISK) as disk:
-        if disk is None:
-            print("no disk may be mounted here: one that fills up while a city is served isn't tried")
-            return
         city, asking = city_of(run.program, disk), Reporter(ALFA, 0, 60)
         filler = os.path.join(disk, "filler")
 
@@ -894,9 +885,6 @@ def a_full_archive_while_served(run):
     """Where the archive's disk is full the journal isn't thinned, that is said, and the city is served on; once there is room both are
     done."""
     with tempfile.TemporaryDirectory() as room, small_disk(room, DISK) as disk:
-        if disk is None:
-            print("no disk may be mounted here: a full archive of a served city isn't tried")
-            return
         city, asking = city_of(run.program, room), [Reporter(ALFA, 0, 60)]
         filler = os.path.join(disk, "filler")
         with open(filler, "wb", buffering=0) as file:
@@ -933,7 +921,7 @@ CASES = (
     no_folder,
     damaged_journals,
     a_file_that_can_not_grow,
-    a_full_disk,
+    thinning_on_a_full_disk,
     wrong_arguments,
     a_day,
     is_archived,
