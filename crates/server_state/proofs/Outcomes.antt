@@ -18,7 +18,7 @@ use Rattle.server_state.specs.Turn.{DeskReplies, RoomReplies}
 module _ (configuration : Configuration) (request : Request) (reply : Reply) (response : Response (Full (List ℕ))) (says : Says response reply) where
   answered : (called : Result Call Code) → call_of configuration request ≡ called → IsAnsweredAs configuration request response called
       → IsAnswered configuration request response
-  answered called is as = subst (IsAnsweredAs configuration request response) (sym is) as
+  answered called is gives = subst (IsAnsweredAs configuration request response) (sym is) gives
 
   -- a refusal of the table of calls
   pub refusal_answered : (refusal : Code) → call_of configuration request ≡ Err refusal → reply ≡ refused refusal

@@ -1,4 +1,4 @@
-//! A resolved head: which client asks, and for what.
+//! A head that asks for a call of the protocol, resolved: its client, and the call or its refusal.
 ghost use Rattle.std.specs.Prelude.{◌≡◌, IfOk};
 ghost use Rattle.mds_request.specs.Call.{call_of};
 ghost use Rattle.mds_request.specs.Configuration.{actor_of};
