@@ -1,3 +1,5 @@
 mod Identified
 pub mod Apart
 mod Segments
+mod Beside
+mod Allowed
