@@ -3,3 +3,4 @@ pub mod Apart
 mod Segments
 mod Beside
 mod Allowed
+mod Targets

@@ -1,9 +1,12 @@
 //! Laws of the tables. Each function's contract is the law; the functions do nothing.
-ghost use Rattle.std.specs.Prelude.{ℕ, List};
+ghost use Rattle.std.specs.Prelude.{◌≡◌, ℕ, List};
 ghost use Rattle.std.specs.Str.{IsUtf8};
-ghost use Rattle.mds_request.specs.Call.{path_of};
+ghost use Rattle.http_uri.specs.Uri.{uri_path};
+ghost use Rattle.http_uri.specs.declared.uri.Uri.{Uri};
+ghost use Rattle.mds_request.specs.Call.{path_of, segments_in, segments_of};
 ghost use Rattle.mds_request.specs.declared.config.Actor.{Actor};
 ghost use Rattle.mds_request.specs.declared.request.Verb.{Verb};
+ghost use Rattle.server_state.specs.HttpRequest.{target_of};
 ghost use Rattle.server_routes.specs.Allowed.{ListsCalls, RefusesUnlisted};
 ghost use Rattle.server_routes.specs.Endpoint.{TablesAreApart};
 
@@ -23,4 +26,9 @@ pub fn lists_calls()
 pub fn refuses_unlisted()
     ensures { (actor : Actor) (verb : Verb) (target : List ℕ)
         → IsUtf8 (path_of target) → RefusesUnlisted actor verb target }
+{}
+
+/// The path of a head's URI, by which `allow` is chosen, has the segments of its target, by which its call is found.
+pub fn paths_have_the_targets_segments()
+    ensures { (uri : Uri) → segments_in (uri_path uri) ≡ segments_of (target_of uri) }
 {}
