@@ -1,3 +1,6 @@
 mod Identified
 pub mod Apart
 mod Segments
+mod Beside
+mod Allowed
+mod Targets

@@ -2,3 +2,4 @@ pub mod Target
 pub mod App
 pub mod State
 pub mod Endpoint
+pub mod Allowed
