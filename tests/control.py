@@ -4,12 +4,13 @@
     control.py PROGRAM
 
 Expects of a server at 127.0.0.1, at every address, with a name of its own, and at a Unix socket: who names its address, localhost or that
-name is answered; another host, an Origin or a Sec-Fetch-Site is refused with 403, and stops nothing; none or several hosts are 400; a head
-is answered as soon as it ends, by line feeds alone too, and a connection whose head doesn't end is closed in its time; beside 50 and beside
-200 connections that say nothing the health is told within 100 ms; a Unix socket is its owner's alone, and takes the place of one that was
-left behind, and of nothing else; `ruffletuff stop` ends the server beside idle connections too; curl is answered; and a page of another
-origin, in Chromium, neither reads it nor stops it. What wants a package that isn't there is left out, which a line names (packages.py).
-Prints what is otherwise, and last 'N passed, M failed'; ends with 1 where one failed.
+name is answered; a 405, and no other answer, names the method that its path takes; another host, an Origin or a Sec-Fetch-Site is refused
+with 403, and stops nothing; none or several hosts are 400; a head is answered as soon as it ends, by line feeds alone too, and a connection
+whose head doesn't end is closed in its time; beside 50 and beside 200 connections that say nothing the health is told within 100 ms; a Unix
+socket is its owner's alone, and takes the place of one that was left behind, and of nothing else; `ruffletuff stop` ends the server beside
+idle connections too; curl is answered; and a page of another origin, in Chromium, neither reads it nor stops it. What wants a package that
+isn't there is left out, which a line names (packages.py). Prints what is otherwise, and last 'N passed, M failed'; ends with 1 where one
+failed.
 """
 
 import contextlib
@@ -105,12 +106,16 @@ class Controlled(Server):
             link.socket = socket.create_connection((host, self.control), SECONDS)
         return link
 
-    def answer(self, head, host="127.0.0.1"):
-        """The status and the text that are answered to these bytes."""
+    def reply(self, head, host="127.0.0.1", method="GET"):
+        """What is answered to these bytes, which are a request of this method."""
         with self.dial(host) as link:
             link.send(head)
-            found = link.answer()
-            return found.status, found.body
+            return link.answer(method)
+
+    def answer(self, head, host="127.0.0.1"):
+        """The status and the text that are answered to these bytes."""
+        found = self.reply(head, host)
+        return found.status, found.body
 
     def told(self, method, path, *fields, version="1.1", host="127.0.0.1"):
         """The status and the text that are answered to a request with these fields."""
@@ -153,6 +158,20 @@ def who_names_it_is_answered(program):
             if (found := server.told(method, path, "host: localhost", "connection: close"))[0] != 405:
                 yield f"{method} {path}: {found}"
         yield from server.stops()
+
+
+def another_method_is_told_the_right_one(program):
+    """Each 405 names the method that its path takes (RFC 9110, section 15.5.6), and no other answer does."""
+    with Controlled(program) as server:
+        cases = [(it, "/healthz", 405, ["GET"]) for it in ("POST", "HEAD", "PUT", "OPTIONS", "get", "GETS")]
+        cases += [(it, "/metrics", 405, ["GET"]) for it in ("POST", "HEAD", "DELETE", "OPTIONS", "Get")]
+        cases += [(it, "/stop", 405, ["POST"]) for it in ("GET", "HEAD", "PUT", "OPTIONS", "post", "POS")]
+        cases += [("GET", "/healthz", 200, None), ("GET", "/metrics", 200, None), ("PUT", "/lost", 404, None)]
+        for method, path, status, allow in cases:
+            found = server.reply(f"{method} {path} HTTP/1.1\r\nhost: localhost\r\n\r\n".encode(), method=method)
+            if (found.status, found.fields.get("allow")) != (status, allow):
+                yield f"{method} {path}: {found}, allow {found.fields.get('allow')}"
+        yield from server.is_there()
 
 
 def who_names_another_is_refused(program):
@@ -408,6 +427,7 @@ def a_page_of_another_origin(program):
 
 ALWAYS = [
     who_names_it_is_answered,
+    another_method_is_told_the_right_one,
     who_names_another_is_refused,
     pages_are_refused,
     one_host_is_wanted,

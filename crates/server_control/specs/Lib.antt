@@ -4,4 +4,5 @@ pub mod Hosts
 pub mod Admission
 pub mod Requests
 pub mod Pages
+pub mod Replies
 pub mod PortAddress

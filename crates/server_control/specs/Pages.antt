@@ -2,6 +2,8 @@
 use Rattle.std.specs.Prelude.{ℕ, List, Option, Some, None, Bool, bytes_eq, codes, if◌then◌else◌}
 use Rattle.server_control.specs.declared.pages.ControlPage.{ControlPage}
 use Rattle.server_control.specs.declared.pages.ControlPage.TheVariants as page
+use Rattle.server_control.specs.declared.pages.ControlMethod.{ControlMethod}
+use Rattle.server_control.specs.declared.pages.ControlMethod.TheVariants.{Get, Post}
 use Rattle.server_control.specs.declared.pages.ControlAnswer.{ControlAnswer}
 use Rattle.server_control.specs.declared.pages.ControlAnswer.TheVariants.{Healthy, Unready, Metrics, Stops, Unread, Forbidden, NotFound, NotAllowed}
 
@@ -12,10 +14,14 @@ page_of path =
     else (if bytes_eq path (codes "/stop") then Some page.Stop else None))
 
 -- what is read takes GET, and what changes the server takes POST (RFC 9110, section 9.3)
-abbrev pub takes : ControlPage → List ℕ → Bool
-takes page.Health method = bytes_eq method (codes "GET")
-takes page.Metrics method = bytes_eq method (codes "GET")
-takes page.Stop method = bytes_eq method (codes "POST")
+abbrev pub method_of : ControlPage → ControlMethod
+method_of page.Health = Get
+method_of page.Metrics = Get
+method_of page.Stop = Post
+
+abbrev pub method_name : ControlMethod → List ℕ
+method_name Get = codes "GET"
+method_name Post = codes "POST"
 
 -- the answer of a page, where the server serves or doesn't
 abbrev pub answer_at : ControlPage → Bool → ControlAnswer
@@ -23,10 +29,11 @@ answer_at page.Health serves = if serves then Healthy else Unready
 answer_at page.Metrics serves = Metrics
 answer_at page.Stop serves = Stops
 
--- the answer to a method of the page at a path, if there is one
+-- the answer to a method of the page at a path, if there is one; another method is told the one that the page takes
 abbrev pub answered : List ℕ → Option ControlPage → Bool → ControlAnswer
 answered method None serves = NotFound
-answered method (Some page) serves = if takes page method then answer_at page serves else NotAllowed
+answered method (Some page) serves =
+    if bytes_eq method (method_name (method_of page)) then answer_at page serves else NotAllowed (method_of page)
 
 abbrev pub answer_of : List ℕ → List ℕ → Bool → ControlAnswer
 answer_of method path serves = answered method (page_of path) serves
@@ -39,5 +46,5 @@ status_of Stops = 202
 status_of Unread = 400
 status_of Forbidden = 403
 status_of NotFound = 404
-status_of NotAllowed = 405
+status_of (NotAllowed method) = 405
 status_of Unready = 503

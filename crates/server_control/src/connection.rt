@@ -4,6 +4,7 @@ use crate::counters::Counters;
 use crate::exposition::metrics;
 use crate::hosts::Hosts;
 use crate::pages::ControlAnswer;
+use crate::replies::reply_text;
 use crate::request::{MOST_OF_HEAD, answer_due, control_head_of};
 use std::alloc::{AllocError, AllocGlobal, Global};
 use std::io::{self, ErrorKind, Read, Write};
@@ -131,7 +132,7 @@ impl<C: Read + Write> Connection<C> {
             && let Some(answer) = self.read_head(server.control.is_serving())?
         {
             let body = body(rt.alloc(), answer, server.counters)?;
-            let text = reply_text(rt.alloc(), answer.status(), &body)?;
+            let text = reply_text(rt.alloc(), answer, &body)?;
             self.reply = Some(ReplyWriter { text, written: 0 });
             self.since = Instant::now(rt)?;
             if answer == ControlAnswer::Stops {
@@ -156,16 +157,7 @@ fn body(alloc: Global, answer: ControlAnswer, counters: &Counters) -> Result<Str
         ControlAnswer::Unread => "bad request\n",
         ControlAnswer::Forbidden => "forbidden\n",
         ControlAnswer::NotFound => "not found\n",
-        ControlAnswer::NotAllowed => "method not allowed\n",
+        ControlAnswer::NotAllowed(_) => "method not allowed\n",
     };
     String::from_str(alloc, text)
-}
-
-/// A response with this status and body, after which the connection is closed (RFC 9112, section
-/// 9.6).
-fn reply_text(alloc: Global, status: u16, body: &str) -> Result<String, AllocError> {
-    let length = body.len();
-    format!(in alloc;
-        "HTTP/1.1 {status} \r\ncontent-type: text/plain; charset=utf-8\r\ncontent-length: {length}\r\nconnection: close\r\n\r\n{body}"
-    )
 }

@@ -14,6 +14,7 @@ mod hosts;
 mod metered;
 mod pages;
 mod port;
+mod replies;
 mod request;
 mod serving;
 
@@ -25,7 +26,7 @@ pub use families::Family;
 pub use fleets::Fleet;
 pub use hosts::Hosts;
 pub use metered::{MeteredReply, RequestTimer};
-pub use pages::{ControlAnswer, answer_for};
+pub use pages::{ControlAnswer, ControlMethod, answer_for};
 pub use port::{Port, PortWaker};
 pub use request::{ControlHead, answer_due, control_head_of};
 pub use serving::serve_control;

@@ -1,6 +1,6 @@
 //! The pages of the control port, and their answers.
 ghost use Rattle.std.specs.Prelude.{◌≡◌};
-ghost use Rattle.server_control.specs.Pages.{page_of, takes, answer_at, answer_of, status_of};
+ghost use Rattle.server_control.specs.Pages.{page_of, method_of, method_name, answer_at, answer_of, status_of};
 
 /// A page of the control port.
 #[derive(Clone, Copy, PartialEq, Eq)]
@@ -11,6 +11,15 @@ enum ControlPage {
     Metrics,
     /// The request to stop.
     Stop,
+}
+
+/// A method that a page of the control port takes.
+#[derive(Clone, Copy, Debug, PartialEq, Eq)]
+pub enum ControlMethod {
+    /// It reads.
+    Get,
+    /// It changes the server.
+    Post,
 }
 
 /// An answer of the control port.
@@ -30,8 +39,8 @@ pub enum ControlAnswer {
     Forbidden,
     /// There is nothing at that path.
     NotFound,
-    /// The path takes another method.
-    NotAllowed,
+    /// The path takes another method, which is this one.
+    NotAllowed(ControlMethod),
 }
 
 impl ControlPage {
@@ -49,13 +58,13 @@ impl ControlPage {
         }
     }
 
-    /// Whether this is the method that the page takes.
-    fn takes(self, method: &[u8]) -> bool
-        ensures { result ≡ takes self method.now }
+    /// The method that the page takes.
+    fn method(self) -> ControlMethod
+        ensures { result ≡ method_of self }
     {
         match self {
-            ControlPage::Health | ControlPage::Metrics => method == b"GET".as_slice(),
-            ControlPage::Stop => method == b"POST".as_slice(),
+            ControlPage::Health | ControlPage::Metrics => ControlMethod::Get,
+            ControlPage::Stop => ControlMethod::Post,
         }
     }
 
@@ -71,16 +80,28 @@ impl ControlPage {
     }
 }
 
+impl ControlMethod {
+    /// Its name, as requests have it (RFC 9110, section 9.1).
+    pub(crate) fn name(self) -> &'static str
+        ensures { result.now ≡ method_name self }
+    {
+        match self {
+            ControlMethod::Get => "GET",
+            ControlMethod::Post => "POST",
+        }
+    }
+}
+
 /// The answer to a method and a path, where the server serves or doesn't.
 pub fn answer_for(method: &[u8], path: &[u8], serves: bool) -> ControlAnswer
     ensures { result ≡ answer_of method.now path.now serves }
 {
     match ControlPage::of(path) {
         Some(page) => {
-            if page.takes(method) {
+            if method == page.method().name().as_bytes() {
                 page.answer(serves)
             } else {
-                ControlAnswer::NotAllowed
+                ControlAnswer::NotAllowed(page.method())
             }
         }
         None => ControlAnswer::NotFound,
@@ -98,7 +119,7 @@ impl ControlAnswer {
             ControlAnswer::Unread => 400,
             ControlAnswer::Forbidden => 403,
             ControlAnswer::NotFound => 404,
-            ControlAnswer::NotAllowed => 405,
+            ControlAnswer::NotAllowed(_) => 405,
             ControlAnswer::Unready => 503,
         }
     }
