@@ -396,12 +396,13 @@ def wrong_arguments(run):
         given, archive = ("--config", city.file), ("--archive", city.room)
         for words in (("--config",), ("--until", "1"), archive, (*given, "--archive"), (*given, "--until", "1"), given * 2):
             found = ended(run.program, "thin", city.folder, *words)
-            if found[:2] != (2, b"") or not found[2].startswith(b"ruffletuff: the arguments are wrong\nusage: "):
+            if found[:2] != (2, b"") or not found[2].startswith(b"ruffletuff: the arguments are wrong\nusage: ruffletuff thin DIR "):
                 yield f"{words}: ends with {found}"
         if ended(run.program, "thin", city.folder)[0] != 2 or city.bytes() != run.bytes:
             yield "without a configuration it changes something"
         for words in (("--thin-at",), ("--thin-at", "x"), ("--thin-at", "-1"), ("--thin-at", "1" * 14), ("--thin-at", "1", "--thin-at", "2")):
-            if (found := city.refused(*words))[:2] != (2, b"") or not found[2].startswith(b"ruffletuff: the arguments are wrong\nusage: "):
+            found = city.refused(*words)
+            if found[:2] != (2, b"") or not found[2].startswith(b"ruffletuff: the arguments are wrong\nusage: ruffletuff serve "):
                 yield f"to serve with {words} ends with {found}"
 
 

@@ -1,11 +1,7 @@
-//! The program's version, usage line and help.
+//! The program's version and help.
 
 /// The program's version.
 pub const VERSION: &str = "1.2.0";
-
-/// The usage line.
-pub const USAGE: &str =
-    "usage: ruffletuff serve --config FILE --state DIR --listen ADDRESS (ruffletuff --help says more)";
 
 /// The text that `--help` prints.
 pub const HELP: &str = "\
