@@ -335,7 +335,7 @@ def no_folder(run):
 
 
 def damaged_journals(run):
-    """A byte that is another, a text that is no entry and an unknown version are refused; a torn end is left out, as by a server."""
+    """A byte that is another, a text that is no entry and an unknown version are refused; a torn end is kept and said, as by a server."""
     texts = records.read(run.bytes).texts
     place = len(run.bytes) // 2
     cases = {
@@ -346,9 +346,13 @@ def damaged_journals(run):
     for said, journal in cases.items():
         with run.copy(journal=journal) as city:
             yield from is_refused(city, 5, DAMAGED + city.folder.encode() + b"\n", second=said)
+    front = f"ruffletuff: 40 bytes that weren't synced, from byte {len(run.bytes)} on"
+    said = f"{front}, are cut off the journal, and kept in a new journal.cut\n"
     with run.copy(journal=run.bytes + run.bytes[:40]) as city:
-        if (found := thin(city))[0] or city.audit()[1] != run.kept:
+        if (found := thin(city))[::2] != (0, said.encode()) or city.audit()[1] != run.kept:
             yield f"with a torn end it ends with {found}"
+        if (found := folder_of(city.folder)["journal.cut"]) != run.bytes[:40]:
+            yield f"of a torn end it keeps {found}"
 
 
 def limited(limit):

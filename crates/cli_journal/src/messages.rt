@@ -7,6 +7,7 @@ use crate::exit_cause::ExitCause;
 use crate::report_fault::ReportFault;
 use cli_args::{CliCommand, usage_of};
 use journal_entry::Unfit;
+use journal_file::CutTail;
 use journal_folder::FolderFault;
 use journal_recovery::{Cause, Fault};
 use std::alloc::AllocGlobal;
@@ -137,6 +138,15 @@ pub fn report_usage<R: Eprint>(rt: &R, words: &[String], ending: &ExitCause) {
     let usage = usage_of(words);
     let _ = eprintln!(rt; "{message}");
     let _ = eprintln!(rt; "usage: ruffletuff {usage} (ruffletuff --help says more)");
+}
+
+/// Reports what was cut off a journal.
+pub fn report_cut<R: Eprint>(rt: &R, cut: Option<CutTail>) {
+    if let Some(CutTail { from, count }) = cut {
+        let _ = eprintln!(rt;
+            "ruffletuff: {count} bytes that weren't synced, from byte {from} on, are cut off the journal, and kept in a new journal.cut"
+        );
+    }
 }
 
 /// Reports the details of a fault, where there are any.
