@@ -7,12 +7,14 @@ Expects each finding with its line and column, worked out by hand, and the exit 
 wrong or missing, of members that nobody reads, with the name that may have been meant, of members whose name stands again in the same
 object, since the last is read, and of values of another kind than what is read; the same warnings at a start; that no server starts where
 `oversight` is none of its texts; the rule of POSIX's TZ variable in the place of a zone's name, which the test reads from the machine's
-file apart from the program, at a start, in /app/whoami and in an audit; and what is told where no file has the name; and which operator's
-limit is too low for a journal. Prints what is otherwise, and last 'N passed, M failed'; ends with 1 where one failed.
+file apart from the program, at a start, in /app/whoami and in an audit; and what is told where no file has the name; which operator's
+limit is too low for a journal; and that --help and the manual page name each member and each option. Prints what is otherwise, and last
+'N passed, M failed'; ends with 1 where one failed.
 """
 
 import json
 import os
+import re
 import sys
 import tempfile
 
@@ -369,8 +371,32 @@ def lowered(program):
             yield f"a lower limit: status {status}, {out!r}, {err!r}"
 
 
+# Of docs/FILES.md the members that each program reads, and those that ruffletuff alone does, with the texts of oversight and a zone's name;
+# of docs/OPERATIONS.md the options, with the socket of --control. For the former the manual page refers to that of mds_serve.
+MEMBERS = "author operators id limit token"
+OWN = "zone name oversight public none verdicts vehicles America/New_York"
+OPTIONS = (
+    "--config --state --listen --control --control-host --drop --thin-at --archive --until --operator --from --to --every --out "
+    "--token-file --token --dry-run --help --version unix:PATH"
+)
+
+
+def helped(program):
+    """--help, on lines of at most 80 columns, and the manual page name each member and each option."""
+    status, out, err = ended(program, "--help")
+    if (status, err) != (0, b""):
+        yield f"--help ends with {status, err}"
+    yield from (f"--help has a line of {len(it)} columns: {it}" for it in out.decode().splitlines() if len(it) > 80)
+    with open(os.path.join(os.path.dirname(os.path.abspath(__file__)), "..", "deploy", "man", "ruffletuff.1"), encoding="utf-8") as page:
+        manual = page.read().replace("\\(dq", '"').replace("\\", "").replace("unix: PATH", "unix:PATH")
+    for where, text, members in (("--help", out.decode(), f"{MEMBERS} {OWN}"), ("the manual page", manual, OWN)):
+        for word in (*members.split(), *OPTIONS.split()):
+            if not re.search(rf"(?<![\w-]){re.escape(word)}(?![\w-])", text):
+                yield f"{where} has no {word}"
+
+
 if __name__ == "__main__":
-    calls, left = [right, wrong, unreadable, started, watched, nameless, lowered], 0
+    calls, left = [right, wrong, unreadable, started, watched, nameless, lowered, helped], 0
     if os.path.isfile(FILE):
         calls.append(named)
     else:

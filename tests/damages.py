@@ -24,7 +24,24 @@ import tempfile
 import time
 
 import records
-from journals import ALFA, AUTHOR, BOTH, BRAVO, DRAFTS, LOCKED, PUBLISH, REPLAY, all_of, is_as_replayed, report, told
+from journals import (
+    ALFA,
+    ALFA_ID,
+    AUTHOR,
+    BOTH,
+    BRAVO,
+    DRAFTS,
+    LOCKED,
+    PUBLISH,
+    REPLAY,
+    UNFIT,
+    all_of,
+    configuration,
+    is_as_replayed,
+    operator,
+    report,
+    told,
+)
 from kept import END_SECONDS, City, Tried, ended
 from wire import identifier
 
@@ -106,6 +123,12 @@ def kept(city):
     return [read(place(city, it)) for it in sorted(names, key=lambda it: int(it[12:] or 0))]
 
 
+def cut_line(tail, whole):
+    """What is said of bytes that are cut off behind so many whole ones: nothing of none."""
+    front = f"ruffletuff: {len(tail)} bytes behind the last whole record, from byte {whole} on"
+    return f"{front}, are cut off the journal, and kept in a new journal.cut\n".encode() if tail else b""
+
+
 def started(city, served=lambda server: ()):
     """A start: its status, its standard error, and what is found wrong while it serves, if it does."""
     server = city.serve()
@@ -151,8 +174,7 @@ def is_kept(city, journal, err):
         yield f"{len(after.texts)} texts are read of it, and {len(before.texts)} stood whole"
     if kept(city) != ([rest] if rest else []):
         yield f"{len(rest)} bytes aren't whole, and {[len(it) for it in kept(city)]} are kept"
-    said = f"ruffletuff: {len(rest)} bytes behind the last whole record, from byte {before.whole} on, are cut off the journal".encode()
-    if bool(rest) != (said in err):
+    if cut_line(rest, before.whole) not in err or (b" are cut off the journal" in err) != bool(rest):
         yield f"it says {err[:300]!r}"
     if journal and before.whole and not before.texts and not is_front_of_first(journal):
         yield "a city is begun anew over a journal"
@@ -317,13 +339,52 @@ def tails_are_kept(sample, _):
                 yield f"{name} has the mode {mode:o}"
 
 
+def thinned(city):
+    return ended(city.program, "thin", city.folder, "--config", city.file)
+
+
 def torn_journals_are_thinned(sample, _):
-    """What thin cuts off a torn journal is kept too."""
-    with sample.copy(sample.bytes[:-5]) as city:
-        status, _, err = ended(city.program, "thin", city.folder, "--config", city.file)
-        whole = records.read(sample.bytes[:-5]).whole
-        if status or kept(city) != [sample.bytes[whole:-5]]:
-            yield f"thin ends with {status, err[:200]}, and {[len(it) for it in kept(city)]} bytes are kept"
+    """What thin cuts off a journal is kept and said as by a start, also where it isn't thinned then; of a whole one nothing is."""
+    whole = sample.ends[-2] + FIRST  # the last group's mark is whole, and its text isn't
+    cases = {
+        "torn": (sample.bytes[:-5], whole, sample.bytes[whole:-5]),
+        "with other bytes behind": (sample.bytes + STRANGE, len(sample.bytes), STRANGE),
+        "whole": (sample.bytes, len(sample.bytes), b""),
+    }
+    for name, (journal, place_, tail) in cases.items():
+        with sample.copy(journal) as city:
+            status, _, err = thinned(city)
+            if status or err != cut_line(tail, place_) or kept(city) != ([tail] if tail else []):
+                yield f"{name}: thin ends with {status, err[:300]}, and {[len(it) for it in kept(city)]} bytes are kept"
+        with sample.copy(journal) as city:
+            city.configure(configuration(operator(ALFA_ID, ALFA)))
+            status, out, err = thinned(city)
+            said = cut_line(tail, place_) + UNFIT + city.folder.encode() + b"\n"
+            if (status, out) != (6, b"") or not err.startswith(said) or kept(city) != ([tail] if tail else []):
+                yield f"{name}: by another configuration thin ends with {status, out, err[:300]}"
+            if city.bytes() != journal[:place_]:
+                yield f"{name}: by another configuration thin changes a record"
+
+
+def journals_without_a_record_are_left(sample, _):
+    """What a first start leaves that was killed: nothing, the record of the first mark (12 and 32 bytes), or a front of the head behind it.
+    check takes it, thin leaves the whole records as they are, and says and keeps the rest, and a start begins the city."""
+    for size, whole in ((0, 0), (1, 0), (43, 0), (44, 44), (45, 44), (60, 44)):
+        with sample.copy(sample.bytes[:size]) as city:
+            tail = sample.bytes[whole:size]
+            status, out, err = city.check()
+            if (status, err) != (0, b"") or not out.startswith(f"0 records, {whole} bytes, {len(tail)} behind them, ".encode()):
+                yield f"{size} bytes: check ends with {status, out, err}"
+            wanted = f"0 records, {size} bytes before; 0 records, {whole} bytes now\n".encode()
+            if (found := thinned(city)) != (0, wanted, cut_line(tail, whole)):
+                yield f"{size} bytes: thin ends with {found}, and not with {wanted, cut_line(tail, whole)}"
+            if city.bytes() != sample.bytes[:whole] or kept(city) != ([tail] if tail else []):
+                yield f"{size} bytes: thin leaves {len(city.bytes())} bytes, and {[len(it) for it in kept(city)]} are kept"
+            if (found := thinned(city)) != (0, wanted.replace(b"%d bytes before" % size, b"%d bytes before" % whole), b""):
+                yield f"{size} bytes: a second time thin ends with {found}"
+            status, err, _ = started(city)
+            if status or err or len(records.read(city.bytes()).texts) != 1:
+                yield f"{size} bytes: a start ends with {status, err[:200]}"
 
 
 def ends_are_checked(sample, _):
@@ -331,11 +392,11 @@ def ends_are_checked(sample, _):
     last = sample.ends[-2]
     cases = {
         "whole": (sample.bytes, 0, b", whole"),
-        "within the last text": (sample.bytes[:-1], 0, b", torn"),
+        "within the last text": (sample.bytes[:-1], 0, b", torn: "),
         "within the last mark": (sample.bytes[: last + 20], 0, b", torn"),
         "with the first byte of a record": (sample.bytes[: last + 1], 0, b", torn"),
-        "with other bytes behind": (sample.bytes + STRANGE, 5, b""),
-        "with zeros behind": (sample.bytes + bytes(4096), 5, b""),
+        "with other bytes behind": (sample.bytes + STRANGE, 5, b", unexplained: "),
+        "with zeros behind": (sample.bytes + bytes(4096), 5, b", unexplained: "),
         "with its last byte changed": (sample.bytes[:-1] + bytes([sample.bytes[-1] ^ 1]), 5, b""),
         "with its last group again": (sample.bytes + sample.bytes[last:], 5, b"written for another place"),
         "without its first byte": (sample.bytes[1:], 5, b"it doesn't begin as a journal does"),
@@ -365,9 +426,8 @@ def is_locked(city, server):
     status, out, err = city.refused()
     if (status, out, err) != (4, b"", LOCKED + city.folder.encode() + b"\n"):
         yield f"a second program ends with {status, out, err[:200]}"
-    thinned = ended(city.program, "thin", city.folder, "--config", city.file)
-    if thinned[0] != 4:
-        yield f"thin ends with {thinned}"
+    if (found := thinned(city))[0] != 4:
+        yield f"thin ends with {found}"
     if told(server) != before:
         yield "the first one tells other things"
 
@@ -460,6 +520,7 @@ CASES = (
     started_from_named,
     tails_are_kept,
     torn_journals_are_thinned,
+    journals_without_a_record_are_left,
     ends_are_checked,
     empty_files_are_journals,
     a_removed_lock,

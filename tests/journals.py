@@ -635,6 +635,29 @@ def parts_of_an_audit(small):
             yield f"{words}: {len(found)} lines, and not {len(wanted)}"
 
 
+# Arguments that are wrong, and how the command is called that they begin; without one how serve is.
+SERVED = "serve --config FILE --state DIR --listen ADDRESS"
+REPORTED = "report FOLDER.. --config FILE --from TIME --to TIME [--every MINUTES] [--operator ID].. --out DIR"
+SENT = "import policies|status FILE.. --to ADDRESS --token-file PATH [--dry-run]"
+USAGE, MORE = b"ruffletuff: the arguments are wrong\nusage:", b"ruffletuff --help says more"
+WRONG = (
+    ((), SERVED),
+    (("serve",), SERVED),
+    (("server", "city"), SERVED),
+    (("--help", "thin"), SERVED),
+    (("city", "thin"), SERVED),
+    (("check",), "check DIR, or check --config FILE"),
+    (("check", "--config"), "check DIR, or check --config FILE"),
+    (("audit", "city"), "audit DIR --config FILE [--until MOMENT] [--operator ID]"),
+    (("thin", "city"), "thin DIR --config FILE [--archive DIR]"),
+    (("report", "city", "--config", "city.json"), REPORTED),
+    (("stop",), "stop ADDRESS"),
+    (("stop", "127.0.0.1:1", "now"), "stop ADDRESS"),
+    (("import", "drafts", "a.json", "--dry-run"), SENT),
+    (("export", "out", "--from", "127.0.0.1:1"), "export DIR --from ADDRESS --token-file PATH"),
+)
+
+
 def told_what_is_wrong(small):
     """Arguments, configurations, addresses and folders that are none: the exit status, and what standard error begins with."""
     program, folder, file = small.program, small.city.folder, small.city.file
@@ -645,8 +668,7 @@ def told_what_is_wrong(small):
         serve, at = ("serve", "--config", file, "--state", new, "--listen"), ("--listen", "127.0.0.1:0")
         misconfigured, unusable = b"ruffletuff: the configuration is wrong: ", b"ruffletuff: the folder can't be used: "
         cases = [
-            ((), 2, b"ruffletuff: the arguments are wrong\nusage: ruffletuff serve "),
-            (("serve",), 2, b"ruffletuff: the arguments are wrong\nusage: ruffletuff serve "),
+            *((words, 2, b"%s ruffletuff %s (%s)\n" % (USAGE, called.encode(), MORE)) for words, called in WRONG),
             ((*serve[:5], *at, "--port", "1"), 2, b"ruffletuff: the arguments are wrong\n"),
             ((*serve, "127.0.0.1:0", "--drop", "x"), 2, b"ruffletuff: the arguments are wrong\n"),
             (("serve", "--config", bad, "--state", new, *at), 2, misconfigured + bad.encode()),
@@ -657,7 +679,6 @@ def told_what_is_wrong(small):
             (("check", os.path.join(room, "none")), 4, unusable),
             (("audit", os.path.join(room, "none"), "--config", file), 4, unusable),
             (("audit", folder, "--config", bad), 2, misconfigured),
-            (("thin", folder), 2, b"ruffletuff: the arguments are wrong\nusage: ruffletuff serve "),
             (("stop", "127.0.0.1:1"), 1, b"ruffletuff: no server says that it stops: 127.0.0.1:1\n"),
         ]
         for words, status, said in cases:

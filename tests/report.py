@@ -550,7 +550,7 @@ def arguments_are_refused(program, replay):
         said = f"ruffletuff: the operator isn't in the configuration: {city.file}\noperator {FURTHER_ID} isn't in it\n"
         yield from is_refused(city, 2, said, "--operator", FURTHER_ID)
         for words in (("--operator", "alfa"), ("--every", "0"), ("--every", "1441"), ("--every", "x"), ("--out", "again"), ("--until", "1")):
-            yield from is_refused(city, 2, "ruffletuff: the arguments are wrong\n", *words)
+            yield from is_refused(city, 2, "ruffletuff: the arguments are wrong\nusage: ruffletuff report FOLDER.. --config FILE ", *words)
         city.configure(b"{}")
         yield from is_refused(city, 2, f"ruffletuff: the configuration is wrong: {city.file}\n")
 

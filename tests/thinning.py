@@ -335,7 +335,7 @@ def no_folder(run):
 
 
 def damaged_journals(run):
-    """A byte that is another, a text that is no entry and an unknown version are refused; a torn end is left out, as by a server."""
+    """A byte that is another, a text that is no entry and an unknown version are refused; a torn end is kept and said, as by a server."""
     texts = records.read(run.bytes).texts
     place = len(run.bytes) // 2
     cases = {
@@ -346,9 +346,13 @@ def damaged_journals(run):
     for said, journal in cases.items():
         with run.copy(journal=journal) as city:
             yield from is_refused(city, 5, DAMAGED + city.folder.encode() + b"\n", second=said)
+    front = f"ruffletuff: 40 bytes behind the last whole record, from byte {len(run.bytes)} on"
+    said = f"{front}, are cut off the journal, and kept in a new journal.cut\n"
     with run.copy(journal=run.bytes + run.bytes[:40]) as city:
-        if (found := thin(city))[0] or city.audit()[1] != run.kept:
+        if (found := thin(city))[::2] != (0, said.encode()) or city.audit()[1] != run.kept:
             yield f"with a torn end it ends with {found}"
+        if (found := folder_of(city.folder)["journal.cut"]) != run.bytes[:40]:
+            yield f"of a torn end it keeps {found}"
 
 
 def limited(limit):
@@ -393,12 +397,13 @@ def wrong_arguments(run):
         given, archive = ("--config", city.file), ("--archive", city.room)
         for words in (("--config",), ("--until", "1"), archive, (*given, "--archive"), (*given, "--until", "1"), given * 2):
             found = ended(run.program, "thin", city.folder, *words)
-            if found[:2] != (2, b"") or not found[2].startswith(b"ruffletuff: the arguments are wrong\nusage: "):
+            if found[:2] != (2, b"") or not found[2].startswith(b"ruffletuff: the arguments are wrong\nusage: ruffletuff thin DIR "):
                 yield f"{words}: ends with {found}"
         if ended(run.program, "thin", city.folder)[0] != 2 or city.bytes() != run.bytes:
             yield "without a configuration it changes something"
         for words in (("--thin-at",), ("--thin-at", "x"), ("--thin-at", "-1"), ("--thin-at", "1" * 14), ("--thin-at", "1", "--thin-at", "2")):
-            if (found := city.refused(*words))[:2] != (2, b"") or not found[2].startswith(b"ruffletuff: the arguments are wrong\nusage: "):
+            found = city.refused(*words)
+            if found[:2] != (2, b"") or not found[2].startswith(b"ruffletuff: the arguments are wrong\nusage: ruffletuff serve "):
                 yield f"to serve with {words} ends with {found}"
 
 

@@ -3,3 +3,4 @@ pub mod Commands
 pub mod Transfers
 pub mod Reports
 pub mod Versions
+pub mod Usage

@@ -1,11 +1,7 @@
-//! The program's version, usage line and help.
+//! The program's version and help.
 
 /// The program's version.
 pub const VERSION: &str = "1.2.0";
-
-/// The usage line.
-pub const USAGE: &str =
-    "usage: ruffletuff serve --config FILE --state DIR --listen ADDRESS (ruffletuff --help says more)";
 
 /// The text that `--help` prints.
 pub const HELP: &str = "\
@@ -31,7 +27,8 @@ ruffletuff import policies FILE.. --to ADDRESS --token-file PATH [--dry-run]
     sends documents of MDS 2.0, or GeoJSON with names, to a server as drafts
 ruffletuff import status FILE.. --to ADDRESS --token-file PATH [--dry-run]
     sends vehicles of MDS 2.0 or GBFS 3 to a server as reports; a FILE of an
-    import may be an address http://..
+    import may be an address http://.. --dry-run stands last: nothing is sent,
+    it says what would be, and --to and the token may be left out
 ruffletuff export DIR --from ADDRESS --token-file PATH
     writes what is published at a server as files of MDS 2.0 and GeoJSON
 ruffletuff --help
@@ -41,7 +38,8 @@ ruffletuff --version
 
 ADDRESS  where to listen, as 127.0.0.1:8080. The control port, at the address
          behind --control, says whether the server serves and what it counts,
-         and stops it: let nobody else reach it
+         and stops it: let nobody else reach it. There, and to stop, unix:PATH
+         is a Unix socket by the path of its file, which its owner alone may use
 DIR      the folder in which the city is kept, or into which what is published
          is written; to serve and to export, it is made where it isn't there;
          a report is written where it is, and none of its files.
@@ -59,7 +57,12 @@ FILE     the configuration, a JSON object on as many lines as one likes:
            author     the author's access token
            operators  at most 64 objects with id (a UUID), limit (1 to 200000
                       vehicles) and token, and a name for people if you like
-           zone       Z, +hh:mm, -hh:mm or a POSIX rule
+           zone       Z, +hh:mm, -hh:mm, a POSIX rule, or a name as
+                      America/New_York, for which the rule at the end of the
+                      machine's file of that zone stands
+           oversight  how far the author sees how each operator stands:
+                      \"none\", as where it is left out, \"verdicts\" or
+                      \"vehicles\"
            public     true where everyone is told, at /mds/2.0, what is
                       published and meant for everyone; else left out
          An access token is 1 to 64 letters, digits, '-' and '_'. No two are
@@ -79,16 +82,19 @@ BYTES    how many the journal has before it is thinned while the city is served,
          where it isn't said, 0 for never
 
 To check, to audit and to report read while a server writes; to thin needs the
-folder alone. Standard output says 'ready' once the server listens. After a fault
-standard error says which.
+folder alone. Standard output says 'ready' once the server listens. After a
+fault standard error says which.
 
 Exit status: 0 done
              1 nothing can be listened to at ADDRESS, no server there stops or
                gives a whole answer, or standard output can't be written
-             2 the arguments, the configuration or a token's file are wrong
+             2 the arguments, the configuration, a time of a report or a token's
+               file are wrong
              3 memory ran out
-             4 a folder can't be used, or another program has it
-             5 the journal is damaged, or of another version
+             4 a folder can't be used, or another program has it; or a report's
+               folder isn't there, or has one of its files
+             5 the journal is damaged, or of another version; of check, also if
+               bytes stand behind its records that no kill leaves
              6 the configuration doesn't fit the journal
              7 the journal, the thinned one, the archive or a report couldn't be
                written
@@ -96,5 +102,6 @@ Exit status: 0 done
              9 something that was read isn't sent, or was refused
             10 the server takes nothing by this access token
 
-Example: ruffletuff serve --config city.json --state city --listen 127.0.0.1:8080
+Example:
+  ruffletuff serve --config city.json --state city --listen 127.0.0.1:8080
 ";

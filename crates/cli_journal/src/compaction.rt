@@ -1,17 +1,19 @@
 //! Compacts a folder's journal that no server has open.
-ghost use Rattle.std.specs.Prelude.{◌≡◌};
-ghost use Rattle.cli_journal.specs.Compaction.{may_leave_remains};
+ghost use Rattle.std.specs.Prelude.{◌≡◌, ℕ, List};
+ghost use Rattle.cli_journal.specs.Compaction.{may_leave_remains, is_unbegun};
 
 use crate::configuration::{configuration_in, configuration_text};
 use crate::exit_cause::ExitCause;
+use crate::messages::report_cut;
 use cli_args::ThinOptions;
 use journal_compaction::{CompactFault, Counts, compact_folder};
-use journal_folder::{FolderFault, Folders, check_archive};
+use journal_file::{FileStorage, HasLogEnd, Journal};
+use journal_folder::{CutFiles, Folder, FolderFault, Folders, check_archive, open_folder};
 use mds_text::Moment;
 use server_admission::{MachineClock, Moments};
 use std::alloc::AllocGlobal;
 use std::fs::{self, File, Files};
-use std::io::Print;
+use std::io::{Eprint, Print};
 use std::mem::drop;
 use std::sync::Wait;
 use std::time::Clock;
@@ -74,6 +76,38 @@ pub fn check_archive_of<R: Files<File = File>>(
     }
 }
 
+/// Whether a journal has no record: it was made by a start that was killed before it wrote the head.
+fn is_unbegun<L: HasLogEnd>(log: &L) -> bool
+    ensures { (list : List (List ℕ)) → L.may_be log.now list → result ≡ is_unbegun list }
+{
+    log.log_end().count == 0
+}
+
+/// Cuts what isn't whole off the end of a folder's journal that no server has. As `serve` does, it keeps that next to
+/// the journal first, and then reports it. Returns whether the journal has no record.
+///
+/// # Errors
+///
+/// `Folder` where another program has the folder, the journal is damaged, or what is to be cut can't be kept;
+/// `NoMemory`.
+fn cut_and_report<R: Files<File = File> + Eprint + AllocGlobal>(
+    rt: &R,
+    folder: &str,
+) -> Result<bool, ExitCause> {
+    let Folder {
+        lock: _lock,
+        journal,
+        ballast: _ballast,
+    } = open_folder(rt, rt.alloc(), folder)?;
+    let mut aside = CutFiles::new(rt, rt.alloc(), folder)?;
+    let log = match Journal::recover(rt.alloc(), FileStorage::new(journal), &mut aside) {
+        Ok(log) => log,
+        Err(fault) => return Err(ExitCause::Folder(FolderFault::from(fault))),
+    };
+    report_cut(rt, log.cut());
+    Ok(is_unbegun(&log))
+}
+
 /// Compacts the journal of a folder, by the text of its configuration. What can't be finished is removed.
 ///
 /// # Errors
@@ -100,29 +134,50 @@ fn compact_or_clear<R: Wait + Folders + Files<File = File> + Clock + AllocGlobal
     }
 }
 
+/// How many records a folder's journal has before and after it is compacted. One without a record stays as it is.
+///
+/// # Errors
+///
+/// As `compact_or_clear`.
+fn compact_records<R: Wait + Folders + Files<File = File> + Clock + AllocGlobal + Copy>(
+    rt: &R,
+    asked: &ThinOptions<'_>,
+    text: &[u8],
+    is_unbegun: bool,
+) -> Result<(usize, usize), ExitCause> {
+    if is_unbegun {
+        return Ok((0, 0));
+    }
+    let counts = compact_or_clear(rt, asked, text)?;
+    // The head is a record too.
+    Ok((
+        counts.before.saturating_add(1),
+        counts.after.saturating_add(1),
+    ))
+}
+
 /// Compacts the journal of a folder that no server has meanwhile, and prints how many records and bytes it had before,
-/// and has now. Where a folder for archived journals is given the journal is kept there first.
+/// and has now. What isn't whole at its end is kept next to it, cut off and reported first. Where a folder for archived
+/// journals is given the journal is kept there first. A journal without a record stays as it is.
 ///
 /// # Errors
 ///
 /// `Misconfigured`; `NoArchive` where there is no such folder; `NotArchived` where the journal can't be kept there;
 /// `Folder` where there is no journal, another program has the folder, or the journal is damaged;
 /// `Refused` where the configuration doesn't fit it; `NotThinned` where the disk has no room for the compacted one;
-/// `Differs`; `NoMemory`. The journal stays as it was. `NotPrinted` where it is compacted.
-pub fn compact<R: Wait + Folders + Files<File = File> + Clock + Print + AllocGlobal + Copy>(
-    rt: &R,
-    asked: &ThinOptions<'_>,
-) -> Result<(), ExitCause> {
+/// `Differs`; `NoMemory`. The journal's records stay as they were. `NotPrinted` where it is compacted.
+pub fn compact<R>(rt: &R, asked: &ThinOptions<'_>) -> Result<(), ExitCause>
+where
+    R: Wait + Folders + Files<File = File> + Clock + Print + Eprint + AllocGlobal + Copy,
+{
     let alloc = rt.alloc();
     let text = configuration_text(rt, alloc, asked.config)?;
     drop(configuration_in(alloc, &text)?);
     check_archive_of(rt, asked.archive)?;
     let length = bytes_of(rt, asked.folder)?;
-    let counts = compact_or_clear(rt, asked, &text)?;
+    let is_unbegun = cut_and_report(rt, asked.folder)?;
+    let (before, after) = compact_records(rt, asked, &text, is_unbegun)?;
     let left = bytes_of(rt, asked.folder)?;
-    // The head is a record too.
-    let before = counts.before.saturating_add(1);
-    let after = counts.after.saturating_add(1);
     match println!(rt;
         "{before} records, {length} bytes before; {after} records, {left} bytes now"
     ) {

@@ -2,7 +2,7 @@
 ghost use Rattle.std.specs.Prelude.{◌≡◌, IsTrue, false, Ok};
 ghost use Rattle.journal_file.specs.Endings.{is_opened};
 ghost use Rattle.journal_folder.specs.Damages.{damage_of};
-ghost use Rattle.cli_journal.specs.Checks.{refused_for};
+ghost use Rattle.cli_journal.specs.Checks.{end_of, refused_for};
 
 use crate::exit_cause::ExitCause;
 use crate::script::behind_head;
@@ -15,12 +15,17 @@ use std::io::Print;
 use std::mem::drop;
 
 /// The end of a journal, in words.
-fn end_of(ending: Ends) -> &'static str {
+fn end_of(ending: Ends) -> &'static str
+    ensures { result.now ≡ end_of ending }
+{
     match ending {
         Ends::Whole => "whole",
-        Ends::Torn =>
-            "torn: what stands behind them wasn't synced, and is cut when the city is served",
-        Ends::Unexplained => "and what stands behind them isn't what a kill leaves",
+        Ends::Torn => {
+            "torn: these begin a record, which a kill leaves, or a server at work; serve and thin keep them in journal.cut and cut them off"
+        }
+        Ends::Unexplained => {
+            "unexplained: no kill leaves these, a loss of power may; serve and thin keep them in journal.cut and cut them off"
+        }
         Ends::Foreign(_) => "no journal",
         Ends::Moved(_) | Ends::Damaged(_) => "damaged",
     }

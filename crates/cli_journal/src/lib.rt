@@ -18,6 +18,6 @@ pub use configuration::{
 };
 pub use exit_cause::ExitCause;
 pub use integrity::{check, check_startable};
-pub use messages::{report_exit, report_usage};
+pub use messages::{report_cut, report_exit, report_usage};
 pub use report_fault::{REPORT_FILES, ReportFault, ReportFile, span_of};
 pub use script::{audit, behind_head};

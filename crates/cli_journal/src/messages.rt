@@ -5,8 +5,9 @@ ghost use Rattle.cli_journal.specs.Messages.{config_of, listener_of, control_of,
 
 use crate::exit_cause::ExitCause;
 use crate::report_fault::ReportFault;
-use cli_args::{CliCommand, USAGE};
+use cli_args::{CliCommand, usage_of};
 use journal_entry::Unfit;
+use journal_file::CutTail;
 use journal_folder::FolderFault;
 use journal_recovery::{Cause, Fault};
 use std::alloc::AllocGlobal;
@@ -131,11 +132,21 @@ pub fn report_exit<R: Eprint + AllocGlobal>(rt: &R, asked: &CliCommand<'_>, endi
     explain(rt, ending);
 }
 
-/// Reports that the arguments are wrong, and prints the usage.
-pub fn report_usage<R: Eprint>(rt: &R, ending: &ExitCause) {
+/// Reports that the arguments are wrong, and prints how the command is called that they begin.
+pub fn report_usage<R: Eprint>(rt: &R, words: &[String], ending: &ExitCause) {
     let message = ending.message();
+    let usage = usage_of(words);
     let _ = eprintln!(rt; "{message}");
-    let _ = eprintln!(rt; "{USAGE}");
+    let _ = eprintln!(rt; "usage: ruffletuff {usage} (ruffletuff --help says more)");
+}
+
+/// Reports what was cut off a journal.
+pub fn report_cut<R: Eprint>(rt: &R, cut: Option<CutTail>) {
+    if let Some(CutTail { from, count }) = cut {
+        let _ = eprintln!(rt;
+            "ruffletuff: {count} bytes behind the last whole record, from byte {from} on, are cut off the journal, and kept in a new journal.cut"
+        );
+    }
 }
 
 /// Reports the details of a fault, where there are any.

@@ -15,10 +15,10 @@ use crate::serving::{ServingParts, persist_and_serve};
 use crate::starting::{dropped_ids, start};
 use crate::thread_job::run_concurrently;
 use cli_args::ServeOptions;
-use cli_journal::{ExitCause, clear, journal_length};
+use cli_journal::{ExitCause, clear, journal_length, report_cut};
 use journal_commit::{Ballast, Space, UnnamedHistory};
 use journal_compaction::AnswersAgree;
-use journal_file::{CutTail, FileStorage, HasLogEnd, Journal, Log};
+use journal_file::{FileStorage, HasLogEnd, Journal, Log};
 use journal_folder::{CutFiles, Folder, FolderFault, Folders, begin_journal, open_folder};
 use journal_swap::{CompactionSchedule, CompactionSource, Handoff, SwapLog};
 use mds_desk::{AuthorRoom, Desk};
@@ -31,7 +31,6 @@ use server_start::workers;
 use server_state::{Hall, HallName};
 use std::alloc::AllocGlobal;
 use std::fs::{File, Files};
-use std::io::Eprint;
 use std::marker::Brand;
 use std::net::Net;
 use std::sync::{Arc, Wait};
@@ -41,15 +40,6 @@ use std::thread::{Threads, available_parallelism};
 fn count_bytes<R: Files<File = File> + AllocGlobal>(rt: &R, folder: &str, counters: &Counters) {
     if let Some(length) = journal_length(rt, folder) {
         counters.set(Figure::JournalBytes, length);
-    }
-}
-
-/// Reports what was cut off a journal.
-fn report_cut<R: Eprint>(rt: &R, cut: Option<CutTail>) {
-    if let Some(CutTail { from, count }) = cut {
-        let _ = eprintln!(rt;
-            "ruffletuff: {count} bytes behind the last whole record, from byte {from} on, are cut off the journal, and kept in a new journal.cut"
-        );
     }
 }
 

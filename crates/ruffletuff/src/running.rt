@@ -43,12 +43,12 @@ where
     let words = match read_words(rt) {
         Ok(words) => words,
         Err(ending) => {
-            report_usage(rt, &ending);
+            report_usage(rt, &[], &ending);
             return ending.status();
         }
     };
     let Some(asked) = parse_command(&words) else {
-        report_usage(rt, &ExitCause::Usage);
+        report_usage(rt, &words, &ExitCause::Usage);
         return ExitCause::Usage.status();
     };
     let done = carry_out(rt, &asked);

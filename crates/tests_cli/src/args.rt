@@ -1,5 +1,5 @@
-//! Tests of what arguments ask for, and of the version line.
-use cli_args::{CliCommand, TokenSource, Transfer, parse_command, version_line};
+//! Tests of what arguments ask for, and of the usage and version lines.
+use cli_args::{CliCommand, TokenSource, Transfer, parse_command, usage_of, version_line};
 use mds_text::Id;
 use std::alloc::{AllocError, AllocGlobal};
 use std::test::Fail;
@@ -31,6 +31,18 @@ fn says_its_version(rt: HostRuntime) -> Result<(), Fail> {
     assert!(rt; line.as_str() == "ruffletuff 1.2.0");
     let line = version_line(rt.alloc(), "1.2.0", "cd2989f")?;
     assert!(rt; line.as_str() == "ruffletuff 1.2.0 (cd2989f)");
+    Ok(())
+}
+
+#[test]
+fn says_how_a_begun_command_is_called(rt: HostRuntime) -> Result<(), Fail> {
+    let thinning = usage_of(&words_in(&rt, "thin city")?);
+    assert!(rt; thinning == "thin DIR --config FILE [--archive DIR]");
+    assert!(rt; usage_of(&words_in(&rt, "stop")?) == "stop ADDRESS");
+    let serving = "serve --config FILE --state DIR --listen ADDRESS";
+    assert!(rt; usage_of(&words_in(&rt, "serve")?) == serving);
+    assert!(rt; usage_of(&words_in(&rt, "city thin")?) == serving);
+    assert!(rt; usage_of(&[]) == serving);
     Ok(())
 }
 
