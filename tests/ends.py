@@ -61,7 +61,7 @@ def an_end(program, arguments, given, status, said):
 # Arguments at which the program tells something and ends, before it reads anything, each with what it prints first.
 TOLD_AT_ONCE = {
     "help": (("--help",), b"mds_serve ADDRESS [CONNECTIONS]"),
-    "the version": (("--version",), b"mds_serve 1.2.0\n"),
+    "the version": (("--version",), b"mds_serve 1.3.0\n"),
 }
 
 

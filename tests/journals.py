@@ -685,7 +685,7 @@ def told_what_is_wrong(small):
             found = ended(program, *words)
             if found[:2] != (status, b"") or not found[2].startswith(said):
                 yield f"{words}: ends with {found}"
-    for words, said in ((("--version",), b"ruffletuff 1.2.0\n"), (("--help",), b"ruffletuff serve --config FILE")):
+    for words, said in ((("--version",), b"ruffletuff 1.3.0\n"), (("--help",), b"ruffletuff serve --config FILE")):
         found = ended(program, *words)
         if (found[0], found[2]) != (0, b"") or not found[1].startswith(said):
             yield f"{words}: ends with {found}"

@@ -1,7 +1,7 @@
 //! The program's version and help.
 
 /// The program's version.
-pub const VERSION: &str = "1.2.0";
+pub const VERSION: &str = "1.3.0";
 
 /// The text that `--help` prints.
 pub const HELP: &str = "\

@@ -5,7 +5,7 @@ ghost use Rattle.server_start.specs.Input.{asked_by, asked_alone, serve_at, aske
 use crate::count::count_of;
 
 /// The server's version.
-pub const VERSION: &str = "1.2.0";
+pub const VERSION: &str = "1.3.0";
 
 /// How the program is called, in one line.
 pub const USAGE: &str =

@@ -27,10 +27,10 @@ fn token_in<'a>(asked: &CliCommand<'a>) -> Option<TokenSource<'a>> {
 
 #[test]
 fn says_its_version(rt: HostRuntime) -> Result<(), Fail> {
-    let line = version_line(rt.alloc(), "1.2.0", "")?;
-    assert!(rt; line.as_str() == "ruffletuff 1.2.0");
-    let line = version_line(rt.alloc(), "1.2.0", "cd2989f")?;
-    assert!(rt; line.as_str() == "ruffletuff 1.2.0 (cd2989f)");
+    let line = version_line(rt.alloc(), "1.3.0", "")?;
+    assert!(rt; line.as_str() == "ruffletuff 1.3.0");
+    let line = version_line(rt.alloc(), "1.3.0", "cd2989f")?;
+    assert!(rt; line.as_str() == "ruffletuff 1.3.0 (cd2989f)");
     Ok(())
 }
 
