@@ -9,10 +9,10 @@ use crate::failure::StartFailure;
 use crate::runtime::ServerRuntime;
 use mds_request::Config;
 use mds_snapshot::{Blank, prepare};
-use server_admission::{MachineClock, Moments};
+use server_admission::MachineClock;
 use server_http::{Queues, bind_first};
 use server_start::{
-    HELP, HallService, ServeCommand, ServeFault, VERSION, command_of, serve, workers,
+    HELP, HallService, ServeCommand, ServeFault, SharedMoments, VERSION, command_of, serve, workers,
 };
 use server_state::{Hall, HallName, SharedHallName};
 use std::env::Env;
@@ -85,7 +85,7 @@ fn open<K: HallName + Send + Sync, R: ServerRuntime>(
 }
 
 /// Binds, says so, serves by so many threads and ends the hall.
-fn listen<K: SharedHallName, R: ServerRuntime, M: Moments + Send + Sync>(
+fn listen<K: SharedHallName, R: ServerRuntime, M: SharedMoments>(
     rt: &R,
     threads: usize,
     arguments: Arguments<'_>,

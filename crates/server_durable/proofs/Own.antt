@@ -15,7 +15,8 @@ use Rattle.server_routes.specs.declared.app.Question.{Question}
 use Rattle.server_routes.specs.declared.app.Question.TheVariants.{Whoami, Withdrawals, Drafts}
 
 pub told_own : (one other : Configuration) (named renamed : Badges) (place : ℕ) (publications : List Publication) (question : Question)
-    → slice_get one.operators place ≡ slice_get other.operators place → slice_get named.operators place ≡ slice_get renamed.operators place → named.oversight ≡ renamed.oversight → named.zone ≡ renamed.zone
+    → slice_get one.operators place ≡ slice_get other.operators place → slice_get named.operators place ≡ slice_get renamed.operators place
+    → named.oversight ≡ renamed.oversight → named.zone ≡ renamed.zone
     → operator_told one named place publications question ≡ operator_told other renamed place publications question
 told_own one other named renamed place publications Whoami same alike oversight zone =
     ap (λ o. told_operator o named.zone (slice_get named.operators place)) oversight

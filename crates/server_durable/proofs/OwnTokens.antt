@@ -8,7 +8,8 @@ use Rattle.mds_text.specs.Fault.{Fault, ◌>>=◌, alike}
 use Rattle.mds_text.specs.Fields.{document_of}
 use Rattle.mds_text.specs.Reading.{read_text}
 use Rattle.mds_text.specs.declared.field.Field.TheVariants.{Author as AuthorName}
-use Rattle.mds_request.specs.Configuration.{Configuration, Operator, access_at, actor_of, configuration_of, has_alike, has_token, ids, operator_at, operators_at, read_configuration, repeats, tokens, zone_at}
+use Rattle.mds_request.specs.Configuration.{Configuration, Operator, access_at, actor_of, configuration_of}
+use Rattle.mds_request.specs.Configuration.{has_alike, has_token, ids, operator_at, operators_at, read_configuration, repeats, tokens, zone_at}
 use Rattle.mds_request.specs.declared.config.Actor.TheVariants.{Author, Operator as OperatorAt}
 use Rattle.server_durable.specs.Laws.{ViewsAreAskedByTheOperator}
 

@@ -1,6 +1,7 @@
 -- The answers to many reports.
 use mathlib.Core.List.{IsPrefix}
-use Rattle.std.proofs.Common.{◌≡◌, ◌==◌, ◌<◌, ℕ, zero, suc, Bool, true, false, not, List, [], ◌∷◌, ◌++◌, length, map, take, drop, get_or, ◌+◌, ◌-◌, length-drop, Option, Some, Result, Ok, Err, IfOk, inl, inr, refl, sym, ap, subst, ◌∙◌, arith}
+use Rattle.std.proofs.Common.{◌≡◌, ◌==◌, ◌<◌, ℕ, zero, suc, Bool, true, false, not, List, [], ◌∷◌, ◌++◌, length, map, take, drop, get_or, ◌+◌, ◌-◌}
+use Rattle.std.proofs.Common.{length-drop, Option, Some, Result, Ok, Err, IfOk, inl, inr, refl, sym, ap, subst, ◌∙◌, arith}
 use Rattle.std.specs.List.{list_all, slice_get}
 use Rattle.std.proofs.Math.Seq.{take-length}
 use Rattle.std.proofs.lemmas.List.{append-nil, length-map, map-append}
@@ -18,7 +19,8 @@ use Rattle.mds_desk.specs.Desk.{DeskState, TakesRun}
 use Rattle.mds_desk.proofs.Running.{begins}
 use Rattle.server_state.specs.Response.{Says}
 use Rattle.server_state.specs.Turn.{IsDeskAt, TakesToldRun}
-use Rattle.server_durable.specs.Many.{AreRecorded, AreRecordsOf, AreRefusedBehind, Continues, IsAnsweredInPart, IsHalted, IsRecordedRun, IsRefusedWhole, ManyAreAnswered, SaysAll, accepted, exchanges, reports_of}
+use Rattle.server_durable.specs.Many.{AreRecorded, AreRecordsOf, AreRefusedBehind, Continues, IsAnsweredInPart, IsHalted, IsRecordedRun}
+use Rattle.server_durable.specs.Many.{IsRefusedWhole, ManyAreAnswered, SaysAll, accepted, exchanges, reports_of}
 use Rattle.server_durable.specs.CacheControl.{Waits}
 use Rattle.server_durable.specs.declared.many.Halt.{Halt}
 use Rattle.server_durable.specs.declared.many.Halt.TheVariants.{Unheld, NotTold}

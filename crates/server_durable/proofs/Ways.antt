@@ -198,7 +198,8 @@ module _ (configuration : Configuration) (badges : Badges) (parts : Parts) (arri
   heard_answers None request heard told = absurd (let no = heard.allowed in cc)
   heard_answers (Some moment) request heard told =
       let one = request_in parts (body_in arrived) moment in
-      subst (λ (first : Option Code). MatchOption (or_else first (unknown (actor_of configuration one.token))) (IsAnswered configuration badges one stamp response) (λ code. Says response (refused code)))
+      subst (λ (first : Option Code). MatchOption (or_else first (unknown (actor_of configuration one.token)))
+      (IsAnswered configuration badges one stamp response) (λ code. Says response (refused code)))
       (sym heard.allowed)
       (subst (λ (r : Request). Tells configuration badges r stamp response (actor_of configuration r.token) (app_of r)) heard.is_it told)
 
@@ -210,7 +211,8 @@ module _ (configuration : Configuration) (badges : Badges) (parts : Parts) (arri
       (IfSome at (λ moment. IsAnswered configuration badges (request_in parts (body_in arrived) moment) stamp response)) (λ refusal. Says response (refused refusal)))
       (sym is) says
 
-module _ {V E : Type 0} (reply : V → Option (Response (Full (List ℕ)))) (stamp : V → List (List ℕ)) (configuration : Configuration) (badges : Badges) (parts : Parts) (arrived : Arrived) (at : Option ℕ) where
+module _ {V E : Type 0} (reply : V → Option (Response (Full (List ℕ)))) (stamp : V → List (List ℕ))
+    (configuration : Configuration) (badges : Badges) (parts : Parts) (arrived : Arrived) (at : Option ℕ) where
   -- the response that waits is such an answer
   pub answered : (result : Result V E) (request : Request) (call : Result StateCall Code) → IsHeard parts arrived at request → IsResolved configuration request call
       → IfOk result (λ s. Waits (λ response. Gives configuration badges (actor_of configuration request.token) request (stamp s) response call) (reply s))

@@ -2,13 +2,11 @@
 ghost use Rattle.std.specs.Prelude.{◌≡◌, Some, None};
 
 use crate::pending::ResponseAfterSync;
-use bytes::Bytes;
 use futures::Future;
 use futures::task::{Context, Poll};
-use http::Response;
-use http_body_util::Full;
 use journal_commit::{LogName, Space};
 use journal_file::Log;
+use server_responses::HttpResult;
 use std::alloc::AllocError;
 
 /// A response that waits until all that it shows is synced. Where no response may be sent it is an error, and the
@@ -42,7 +40,7 @@ impl<N: LogName, L: Log, S: Space> Future for PendingResponse<N, L, S> {
     ghost use Rattle.tokio.specs.Locks.{owned_notified_source};
     ghost use Rattle.journal_commit.specs.Durable.{AreDurable};
 
-    type Output = Result<Response<Full<Bytes>>, AllocError>;
+    type Output = HttpResult;
 
     // A response is given once all that it shows is durable.
     ghost gives = { λ leaving told. IfOk told (λ response. IfSome leaving.told (λ s.
@@ -52,7 +50,7 @@ impl<N: LogName, L: Log, S: Space> Future for PendingResponse<N, L, S> {
     ghost needs = { λ leaving source. IfSome leaving.told (λ s.
         IfSome s.heard (λ heard. source ≡ owned_notified_source heard)) };
 
-    fn poll(&mut self, cx: &mut Context<'_>) -> Poll<Result<Response<Full<Bytes>>, AllocError>> {
+    fn poll(&mut self, cx: &mut Context<'_>) -> Poll<HttpResult> {
         let Some(settling) = &mut self.told else {
             return Poll::Ready(Err(AllocError));
         };

@@ -9,6 +9,7 @@ use http::header::CONTENT_TYPE;
 use http::{HeaderValue, Response, StatusCode};
 use http_body_util::Full;
 use mds_desk::SharedReply;
+use server_responses::{HttpResult, with_field};
 use std::alloc::{AllocError, Global};
 
 /// How many bytes a line has besides the body of its answer.
@@ -62,18 +63,12 @@ fn lines_of(alloc: Global, answers: &[SharedReply]) -> Result<Vec<u8>, AllocErro
 /// # Errors
 ///
 /// Out of memory.
-pub(crate) fn response_of_all(
-    alloc: Global,
-    answers: &[SharedReply],
-) -> Result<Response<Full<Bytes>>, AllocError>
+pub(crate) fn response_of_all(alloc: Global, answers: &[SharedReply]) -> HttpResult
     ensures { IfOk result (λ response. SaysAll response answers.now) }
 {
     let body = Bytes::from_vec(lines_of(alloc, answers)?)?;
     let mut response = Response::new(alloc, Full::new(body));
     *response.status_mut() = StatusCode::OK;
     let lines = HeaderValue::from_static("application/x-ndjson");
-    match response.headers_mut().insert(CONTENT_TYPE, lines) {
-        Ok(_) => Ok(response),
-        Err(_) => Err(AllocError),
-    }
+    with_field(response, CONTENT_TYPE, lines)
 }

@@ -52,7 +52,8 @@ returns-in-Ok-Call g c =
     let heard = c.in-Ok.heard in
     let found : Ok (OfProtocol c.in-Ok-Call.call) ≡ head.call = search rules in
     let known = resolved own heard head.parts head.actor (Ok (OfProtocol c.in-Ok-Call.call)) (c.in-Ok.ensures.head ∙ c.parts.ensures) head.asks (found ∙ head.calls) in
-    answered (λ s. s.reply) (λ s. s.stamp) own (badges_view c.args.city.now.badges) head.parts c.args.arrived.now c.args.at c.answer_call.result (request_heard heard) (Ok (OfProtocol c.in-Ok-Call.call))
+    answered (λ s. s.reply) (λ s. s.stamp) own (badges_view c.args.city.now.badges) head.parts
+    c.args.arrived.now c.args.at c.answer_call.result (request_heard heard) (Ok (OfProtocol c.in-Ok-Call.call))
     (subst (λ (p : Parts). IsHeard p c.args.arrived.now c.args.at (request_heard heard)) c.parts.ensures c.in-Ok.ensures.heard) known c.answer_call.ensures
 
 pub returns-in-Ok-Reports : goal.returns-in-Ok-Reports
@@ -62,7 +63,8 @@ returns-in-Ok-Reports g c =
     let heard = c.in-Ok.heard in
     let found : Ok (Reports c.in-Ok-Reports.place) ≡ head.call = search rules in
     let known = resolved own heard head.parts head.actor (Ok (Reports c.in-Ok-Reports.place)) (c.in-Ok.ensures.head ∙ c.parts.ensures) head.asks (found ∙ head.calls) in
-    answered (λ s. s.reply) (λ s. s.stamp) own (badges_view c.args.city.now.badges) head.parts c.args.arrived.now c.args.at c.many_reports.result (request_heard heard) (Ok (Reports c.in-Ok-Reports.place))
+    answered (λ s. s.reply) (λ s. s.stamp) own (badges_view c.args.city.now.badges) head.parts
+    c.args.arrived.now c.args.at c.many_reports.result (request_heard heard) (Ok (Reports c.in-Ok-Reports.place))
     (subst (λ (p : Parts). IsHeard p c.args.arrived.now c.args.at (request_heard heard)) c.parts.ensures c.in-Ok.ensures.heard) known c.many_reports.ensures
 
 pub returns-in-Ok-AuthorAsks : goal.returns-in-Ok-AuthorAsks
@@ -72,7 +74,8 @@ returns-in-Ok-AuthorAsks g c =
     let heard = c.in-Ok.heard in
     let found : Ok (AuthorAsks c.in-Ok-AuthorAsks.question) ≡ head.call = search rules in
     let known = resolved own heard head.parts head.actor (Ok (AuthorAsks c.in-Ok-AuthorAsks.question)) (c.in-Ok.ensures.head ∙ c.parts.ensures) head.asks (found ∙ head.calls) in
-    answered (λ s. s.reply) (λ s. s.stamp) own (badges_view c.args.city.now.badges) head.parts c.args.arrived.now c.args.at c.answer_author.result (request_heard heard) (Ok (AuthorAsks c.in-Ok-AuthorAsks.question))
+    answered (λ s. s.reply) (λ s. s.stamp) own (badges_view c.args.city.now.badges) head.parts
+    c.args.arrived.now c.args.at c.answer_author.result (request_heard heard) (Ok (AuthorAsks c.in-Ok-AuthorAsks.question))
     (subst (λ (p : Parts). IsHeard p c.args.arrived.now c.args.at (request_heard heard)) c.parts.ensures c.in-Ok.ensures.heard) known c.answer_author.ensures
 
 pub returns-in-Ok-OperatorAsks : goal.returns-in-Ok-OperatorAsks
@@ -81,8 +84,11 @@ returns-in-Ok-OperatorAsks g c =
     let head = c.args.head.now in
     let heard = c.in-Ok.heard in
     let found : Ok (OperatorAsks c.in-Ok-OperatorAsks.place c.in-Ok-OperatorAsks.question) ≡ head.call = search rules in
-    let known = resolved own heard head.parts head.actor (Ok (OperatorAsks c.in-Ok-OperatorAsks.place c.in-Ok-OperatorAsks.question)) (c.in-Ok.ensures.head ∙ c.parts.ensures) head.asks (found ∙ head.calls) in
-    answered (λ s. s.reply) (λ s. s.stamp) own (badges_view c.args.city.now.badges) head.parts c.args.arrived.now c.args.at c.answer_operator.result (request_heard heard) (Ok (OperatorAsks c.in-Ok-OperatorAsks.place c.in-Ok-OperatorAsks.question))
+    let known =
+    resolved own heard head.parts head.actor (Ok (OperatorAsks c.in-Ok-OperatorAsks.place c.in-Ok-OperatorAsks.question))
+    (c.in-Ok.ensures.head ∙ c.parts.ensures) head.asks (found ∙ head.calls) in
+    answered (λ s. s.reply) (λ s. s.stamp) own (badges_view c.args.city.now.badges) head.parts
+    c.args.arrived.now c.args.at c.answer_operator.result (request_heard heard) (Ok (OperatorAsks c.in-Ok-OperatorAsks.place c.in-Ok-OperatorAsks.question))
     (subst (λ (p : Parts). IsHeard p c.args.arrived.now c.args.at (request_heard heard)) c.parts.ensures c.in-Ok.ensures.heard) known c.answer_operator.ensures
 
 pub returns-in-Ok-OwnFleet : goal.returns-in-Ok-OwnFleet
@@ -93,7 +99,8 @@ returns-in-Ok-OwnFleet g c =
     let heard = c.in-Ok.heard in
     let found : Ok (OwnFleet c.in-Ok-OwnFleet.place c.in-Ok-OwnFleet.view) ≡ head.call = search rules in
     let known = resolved own heard head.parts head.actor (Ok (OwnFleet c.in-Ok-OwnFleet.place c.in-Ok-OwnFleet.view)) (c.in-Ok.ensures.head ∙ c.parts.ensures) head.asks (found ∙ head.calls) in
-    answered (λ s. s.reply) (λ s. s.stamp) own badges head.parts c.args.arrived.now c.args.at c.answer_own_fleet.result (request_heard heard) (Ok (OwnFleet c.in-Ok-OwnFleet.place c.in-Ok-OwnFleet.view))
+    answered (λ s. s.reply) (λ s. s.stamp) own badges head.parts
+    c.args.arrived.now c.args.at c.answer_own_fleet.result (request_heard heard) (Ok (OwnFleet c.in-Ok-OwnFleet.place c.in-Ok-OwnFleet.view))
     (subst (λ (p : Parts). IsHeard p c.args.arrived.now c.args.at (request_heard heard)) c.parts.ensures c.in-Ok.ensures.heard) known
     (subst (λ (at : ℕ). IfOk c.answer_own_fleet.result (λ s. Waits (SaysOne (IsOwnView own c.in-Ok-OwnFleet.place c.in-Ok-OwnFleet.view at)) s.reply)) c.moment.ensures c.answer_own_fleet.ensures)
 
@@ -104,10 +111,14 @@ returns-in-Ok-OperatorFleet g c =
     let head = c.args.head.now in
     let heard = c.in-Ok.heard in
     let found : Ok (OperatorFleet c.in-Ok-OperatorFleet.view c.in-Ok-OperatorFleet.id) ≡ head.call = search rules in
-    let known = resolved own heard head.parts head.actor (Ok (OperatorFleet c.in-Ok-OperatorFleet.view c.in-Ok-OperatorFleet.id)) (c.in-Ok.ensures.head ∙ c.parts.ensures) head.asks (found ∙ head.calls) in
-    answered (λ s. s.reply) (λ s. s.stamp) own badges head.parts c.args.arrived.now c.args.at c.answer_operator_fleet.result (request_heard heard) (Ok (OperatorFleet c.in-Ok-OperatorFleet.view c.in-Ok-OperatorFleet.id))
+    let known =
+    resolved own heard head.parts head.actor (Ok (OperatorFleet c.in-Ok-OperatorFleet.view c.in-Ok-OperatorFleet.id))
+    (c.in-Ok.ensures.head ∙ c.parts.ensures) head.asks (found ∙ head.calls) in
+    answered (λ s. s.reply) (λ s. s.stamp) own badges head.parts
+    c.args.arrived.now c.args.at c.answer_operator_fleet.result (request_heard heard) (Ok (OperatorFleet c.in-Ok-OperatorFleet.view c.in-Ok-OperatorFleet.id))
     (subst (λ (p : Parts). IsHeard p c.args.arrived.now c.args.at (request_heard heard)) c.parts.ensures c.in-Ok.ensures.heard) known
-    (subst (λ (at : ℕ). IfOk c.answer_operator_fleet.result (λ s. Waits (SaysOne (IsViewOf own badges c.in-Ok-OperatorFleet.view c.in-Ok-OperatorFleet.id at)) s.reply)) c.moment-in-Ok-OperatorFleet.ensures c.answer_operator_fleet.ensures)
+    (subst (λ (at : ℕ). IfOk c.answer_operator_fleet.result (λ s. Waits (SaysOne (IsViewOf own badges c.in-Ok-OperatorFleet.view c.in-Ok-OperatorFleet.id at)) s.reply))
+    c.moment-in-Ok-OperatorFleet.ensures c.answer_operator_fleet.ensures)
 
 pub returns-in-Ok-EachCompliance : goal.returns-in-Ok-EachCompliance
 returns-in-Ok-EachCompliance g c =
