@@ -3,7 +3,7 @@ use super::*;
 use crate::waiting::is_set_in_time;
 use mds_desk::Gate;
 use mds_verdict::Plain;
-use server_state::respond_with;
+use server_state::{SharedHallName, respond_with};
 use std::sync::atomic::{AtomicBool, Ordering};
 use std::thread::join;
 
@@ -99,7 +99,7 @@ fn are_answered<K: HallName, R: HallRuntime + Sync>(
     all
 }
 
-pub(super) fn during_a_held_question<K: HallName + Send + Sync, R: HallRuntime + Sync>(
+pub(super) fn during_a_held_question<K: SharedHallName, R: HallRuntime + Sync>(
     rt: &R,
     alloc: Global,
     hall: &Hall<K>,
