@@ -4,8 +4,6 @@
 
 mod clock;
 mod reading;
-#[cfg(test)]
-mod tests;
 mod text;
 mod times;
 

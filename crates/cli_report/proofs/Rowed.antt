@@ -9,7 +9,7 @@ use Rattle.cli_report.specs.Days.{IsOrdered, day_sample}
 use Rattle.cli_report.specs.Names.{Label, label_of}
 use Rattle.cli_report.specs.Rows.{IsDays, IsSummary, Operator, day_cells, day_row, tally_of}
 use Rattle.cli_report.specs.Texts.{Appends, Spells}
-use Rattle.cli_report.specs.declared.cell.Cell as program
+use Rattle.cli_report.specs.declared.cell.CellValue as program
 use Rattle.cli_report.specs.declared.days.DaySample.{DaySample}
 use Rattle.cli_report.specs.declared.summary.Tally.{Tally}
 use Rattle.cli_report.proofs.Spelled.{spelled_map}
@@ -25,7 +25,7 @@ unfolding IsLater
 later_made zone c old mid new comma made =
     (44 ∷ made.0, (made.0, made.1, refl), made.2 ∙ ap (λ s. s ++ made.0) comma ∙ append_assoc old (44 ∷ []) made.0)
 
-pub row_made : (zone : ZoneKind) (first : Cell) (others : List program.Cell) (old one all new : List ℕ) → Appends (IsCell zone first) old one
+pub row_made : (zone : ZoneKind) (first : Cell) (others : List program.CellValue) (old one all new : List ℕ) → Appends (IsCell zone first) old one
     → Appends (Spells (λ c. IsLater zone (cell_view c)) others) one all → new ≡ all ++ 13 ∷ 10 ∷ []
     → Appends (IsRow zone (first ∷ map cell_view others)) old new
 unfolding IsRow

@@ -7,8 +7,8 @@ use Rattle.cli_calendar.specs.Clocks.{clock_at}
 use Rattle.cli_calendar.specs.Texts.{IsDay, IsLocal, IsUtc}
 use Rattle.cli_report.specs.Csv.{cell_text}
 use Rattle.cli_report.specs.Texts.{Spells}
-use Rattle.cli_report.specs.declared.cell.Cell as program
-use Rattle.cli_report.specs.declared.cell.Cell.TheVariants as cell
+use Rattle.cli_report.specs.declared.cell.CellValue as program
+use Rattle.cli_report.specs.declared.cell.CellValue.TheVariants as cell
 
 -- what a cell tells: a text, an identifier, a number, a bound where there is one, a moment in UTC, a moment in the city's
 -- zone where there is one, and the local day of a moment
@@ -21,8 +21,8 @@ pub data Cell : Type 0 where
   local : Option ℕ → Cell
   day : ℕ → Cell
 
--- the cell that a `Cell` of the program stands for
-abbrev pub cell_view : program.Cell → Cell
+-- the cell that a `CellValue` of the program stands for
+abbrev pub cell_view : program.CellValue → Cell
 cell_view (cell.Text bytes) = text bytes.now
 cell_view (cell.Id id) = identifier id
 cell_view (cell.Number n) = number n

@@ -14,9 +14,9 @@ use std::alloc::{AllocError, Global};
 /// The seconds of a day.
 const DAY_SECONDS: u64 = 86_400;
 
-/// What a cell tells. Contracts see a `Cell`.
+/// The value of a cell: what it tells. Contracts see a `Cell`.
 #[derive(Clone, Copy)]
-pub(crate) enum Cell<'a> {
+pub(crate) enum CellValue<'a> {
     /// A text.
     Text(&'a [u8]),
     /// An identifier.
@@ -84,16 +84,20 @@ pub(crate) fn day_text(alloc: Global, zone: &Zone, at: Moment) -> Result<Vec<u8>
 }
 
 /// The text of a cell.
-pub(crate) fn plain_text(alloc: Global, zone: &Zone, cell: &Cell<'_>) -> Result<Vec<u8>, AllocError>
+pub(crate) fn plain_text(
+    alloc: Global,
+    zone: &Zone,
+    cell: &CellValue<'_>,
+) -> Result<Vec<u8>, AllocError>
     ensures { IfOk result (λ text. IsText zone.now (cell_view cell.now) text.items) }
 {
     match cell {
-        Cell::Text(bytes) => copy_of(alloc, bytes),
-        Cell::Id(id) => id_text(alloc, id),
-        Cell::Number(number) => number_text(alloc, *number),
-        Cell::Bound(bound) => bound_text(alloc, bound),
-        Cell::Utc(at) => utc_text(alloc, *at),
-        Cell::Local(at) => local_text_if(alloc, zone, at),
-        Cell::Day(at) => day_text(alloc, zone, *at),
+        CellValue::Text(bytes) => copy_of(alloc, bytes),
+        CellValue::Id(id) => id_text(alloc, id),
+        CellValue::Number(number) => number_text(alloc, *number),
+        CellValue::Bound(bound) => bound_text(alloc, bound),
+        CellValue::Utc(at) => utc_text(alloc, *at),
+        CellValue::Local(at) => local_text_if(alloc, zone, at),
+        CellValue::Day(at) => day_text(alloc, zone, *at),
     }
 }

@@ -12,8 +12,6 @@ mod ranking;
 mod reported;
 mod rows;
 mod summary;
-#[cfg(test)]
-mod tests;
 mod timeline;
 mod verdicts;
 mod words;

@@ -3,13 +3,13 @@ ghost use Rattle.std.specs.Prelude.{◌≡◌, ◌++◌, ◌∷◌, [], map, OnO
 ghost use Rattle.cli_report.specs.Cells.{IsCell, IsLater, IsRow, cell_view};
 ghost use Rattle.cli_report.specs.Texts.{Appends, Spells};
 
-use crate::cell::{Cell, plain_text};
+use crate::cell::{CellValue, plain_text};
 use crate::csv::push_text;
 use mds_match::Zone;
 use std::alloc::AllocError;
 
 /// Appends a cell.
-fn push_cell(out: &mut Vec<u8>, zone: &Zone, cell: &Cell<'_>) -> Result<(), AllocError>
+fn push_cell(out: &mut Vec<u8>, zone: &Zone, cell: &CellValue<'_>) -> Result<(), AllocError>
     ensures { OnOk result (Appends (IsCell zone.now (cell_view cell.now)) out.old.items out.new.items) }
 {
     let text = plain_text(*out.allocator(), zone, cell)?;
@@ -17,7 +17,7 @@ fn push_cell(out: &mut Vec<u8>, zone: &Zone, cell: &Cell<'_>) -> Result<(), Allo
 }
 
 /// Appends a cell that isn't the first one of its row.
-fn push_later(out: &mut Vec<u8>, zone: &Zone, cell: &Cell<'_>) -> Result<(), AllocError>
+fn push_later(out: &mut Vec<u8>, zone: &Zone, cell: &CellValue<'_>) -> Result<(), AllocError>
     ensures { OnOk result (Appends (IsLater zone.now (cell_view cell.now)) out.old.items out.new.items) }
 {
     out.push(b',')?;
@@ -26,7 +26,7 @@ fn push_later(out: &mut Vec<u8>, zone: &Zone, cell: &Cell<'_>) -> Result<(), All
 
 /// Appends all cells of a row but its first one.
 #[tactic(auto, using(crate::proofs::Spelled::none_yet))]
-fn push_others(out: &mut Vec<u8>, zone: &Zone, cells: &[Cell<'_>]) -> Result<(), AllocError>
+fn push_others(out: &mut Vec<u8>, zone: &Zone, cells: &[CellValue<'_>]) -> Result<(), AllocError>
     ensures { OnOk result (Appends (Spells (λ c. IsLater zone.now (cell_view c)) cells.now)
         out.old.items out.new.items) }
 {
@@ -51,8 +51,8 @@ fn push_line_end(out: &mut Vec<u8>) -> Result<(), AllocError>
 pub(crate) fn push_row(
     out: &mut Vec<u8>,
     zone: &Zone,
-    first: &Cell<'_>,
-    others: &[Cell<'_>],
+    first: &CellValue<'_>,
+    others: &[CellValue<'_>],
 ) -> Result<(), AllocError>
     ensures { OnOk result (Appends (IsRow zone.now (cell_view first.now ∷ map cell_view others.now))
         out.old.items out.new.items) }

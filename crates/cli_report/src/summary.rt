@@ -7,7 +7,7 @@ ghost use Rattle.cli_report.specs.Rows.{IsDays, IsSummary, day_cells, day_row, f
 ghost use Rattle.cli_report.specs.Rows.{operator_view, summary_header, tally_of};
 ghost use Rattle.cli_report.specs.Texts.{Appends};
 
-use crate::cell::Cell;
+use crate::cell::CellValue;
 use crate::days::{
     DaySample, count_first, first_of, front_of, greatest_measure, longest_run, ordered_days,
     rest_of, violations,
@@ -99,23 +99,23 @@ fn push_tally<'x>(
         out.old.items out.new.items) }
 {
     let others = [
-        Cell::Text(operator.name),
-        Cell::Id(first.policy),
-        Cell::Text(label.policy),
-        Cell::Number(first.number as u64),
-        Cell::Id(first.rule),
-        Cell::Text(label.name),
-        Cell::Day(first.at),
-        Cell::Number(tally.samples),
-        Cell::Number(tally.violated),
-        Cell::Number(tally.longest),
-        Cell::Local(tally.longest_first),
-        Cell::Local(tally.longest_last),
-        Cell::Local(tally.first_violated),
-        Cell::Local(tally.last_violated),
-        Cell::Number(tally.greatest_measure),
+        CellValue::Text(operator.name),
+        CellValue::Id(first.policy),
+        CellValue::Text(label.policy),
+        CellValue::Number(first.number as u64),
+        CellValue::Id(first.rule),
+        CellValue::Text(label.name),
+        CellValue::Day(first.at),
+        CellValue::Number(tally.samples),
+        CellValue::Number(tally.violated),
+        CellValue::Number(tally.longest),
+        CellValue::Local(tally.longest_first),
+        CellValue::Local(tally.longest_last),
+        CellValue::Local(tally.first_violated),
+        CellValue::Local(tally.last_violated),
+        CellValue::Number(tally.greatest_measure),
     ];
-    push_row(out, zone, &Cell::Id(operator.id), &others)
+    push_row(out, zone, &CellValue::Id(operator.id), &others)
 }
 
 /// Appends the row of the samples of a rule's day.

@@ -8,7 +8,7 @@ ghost use Rattle.cli_report.specs.Rows.{IsVerdicts, maximum, minimum, operator_v
 ghost use Rattle.cli_report.specs.Rows.{verdict_cells, verdict_header, verdict_row};
 ghost use Rattle.cli_report.specs.Texts.{Appends};
 
-use crate::cell::Cell;
+use crate::cell::CellValue;
 use crate::names::{PolicyTree, RuleLabel, label_of, trees_in};
 use crate::reported::ReportedOperator;
 use crate::rows::push_row;
@@ -67,20 +67,20 @@ fn push_verdict<'x>(
         out.old.items out.new.items) }
 {
     let others = [
-        Cell::Local(Some(sample.at)),
-        Cell::Id(operator.id),
-        Cell::Text(operator.name),
-        Cell::Id(sample.policy),
-        Cell::Text(label.policy),
-        Cell::Number(sample.number as u64),
-        Cell::Id(sample.rule),
-        Cell::Text(label.name),
-        Cell::Text(status_name(sample.status).as_bytes()),
-        Cell::Number(sample.measure),
-        Cell::Bound(minimum(label)),
-        Cell::Bound(maximum(label)),
+        CellValue::Local(Some(sample.at)),
+        CellValue::Id(operator.id),
+        CellValue::Text(operator.name),
+        CellValue::Id(sample.policy),
+        CellValue::Text(label.policy),
+        CellValue::Number(sample.number as u64),
+        CellValue::Id(sample.rule),
+        CellValue::Text(label.name),
+        CellValue::Text(status_name(sample.status).as_bytes()),
+        CellValue::Number(sample.measure),
+        CellValue::Bound(minimum(label)),
+        CellValue::Bound(maximum(label)),
     ];
-    push_row(out, zone, &Cell::Utc(sample.at), &others)
+    push_row(out, zone, &CellValue::Utc(sample.at), &others)
 }
 
 /// Appends a row for each of these samples, in their order.

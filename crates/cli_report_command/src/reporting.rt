@@ -96,7 +96,7 @@ fn reported_places(
     Ok(places)
 }
 
-/// Writes a report into its folder: all of its files, or none.
+/// Writes a report into its folder: all of its files, or none. What isn't finished is removed.
 ///
 /// # Errors
 ///
@@ -108,21 +108,13 @@ fn write_report<R: Files<File = File> + Eprint + Threads + Sync + AllocGlobal>(
 ) -> Result<usize, ExitCause>
     requires { All (λ place. place < length (configuration source.now.config.now).operators) source.now.places.now }
 {
-    let mut files = ReportFiles::create(rt, folder)?;
-    let samples = append_operators(rt, &mut files, source)?;
-    files.finish(rt, folder)?;
-    Ok(samples)
-}
-
-/// The same. What isn't finished is removed.
-fn write_or_clear<R: Files<File = File> + Eprint + Threads + Sync + AllocGlobal>(
-    rt: &R,
-    folder: &str,
-    source: &ReportSource<'_>,
-) -> Result<usize, ExitCause>
-    requires { All (λ place. place < length (configuration source.now.config.now).operators) source.now.places.now }
-{
-    let written = write_report(rt, folder, source);
+    let written = match ReportFiles::create(rt, folder) {
+        Ok(mut files) => match append_operators(rt, &mut files, source) {
+            Ok(samples) => files.finish(rt, folder).map(|()| samples),
+            Err(cause) => Err(cause),
+        },
+        Err(cause) => Err(cause),
+    };
     if written.is_err() {
         clear_parts(rt, folder);
     }
@@ -178,6 +170,6 @@ where
         moments: &moments,
         span,
     };
-    let samples = write_or_clear(rt, asked.out, &source)?;
+    let samples = write_report(rt, asked.out, &source)?;
     print_counts(rt, places.len(), moments.len(), samples)
 }

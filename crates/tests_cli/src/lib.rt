@@ -1,16 +1,20 @@
-//! Tests of what the command line reads and writes: arguments, configurations, zones, requests, documents and vehicles.
-//! They use public items alone, and are a crate of their own, so that proving them doesn't prove the tested crates
-//! again.
+//! Tests of what the command line reads and writes: arguments, configurations, zones, moments, requests, documents,
+//! vehicles and reports. They use public items alone, and are a crate of their own, so that proving them doesn't prove
+//! the tested crates again.
 #![tactic(auto)]
 
 #[cfg(test)]
 mod args;
+#[cfg(test)]
+mod calendar;
 #[cfg(test)]
 mod client;
 #[cfg(test)]
 mod config;
 #[cfg(test)]
 mod documents;
+#[cfg(test)]
+mod report;
 #[cfg(test)]
 mod timezone;
 #[cfg(test)]

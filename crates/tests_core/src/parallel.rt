@@ -212,8 +212,13 @@ fn expect_every(rt: &impl Abort, verdict: &RuleVerdict, first: u32, step: u32) {
     }
 }
 
+/// What tests need of the runtime, besides that threads may share it.
+trait VerdictRuntime: Abort + Threads {}
+
+impl<R: Abort + Threads> VerdictRuntime for R {}
+
 /// Checks the verdicts by threads, at the second try at the latest.
-fn expect_by_several<R: Abort + Threads + Sync>(
+fn expect_by_several<R: VerdictRuntime + Sync>(
     rt: &R,
     alloc: Global,
     city: &VerdictInput,
@@ -237,7 +242,7 @@ fn expect_by_one(rt: &impl Abort, alloc: Global, city: &VerdictInput, vehicles: 
 }
 
 /// Checks the verdicts by threads on no vehicles.
-fn expect_none<R: Abort + Threads + Sync>(rt: &R, alloc: Global, city: &VerdictInput) {
+fn expect_none<R: VerdictRuntime + Sync>(rt: &R, alloc: Global, city: &VerdictInput) {
     let found = match by_several(rt, alloc, city, &[]) {
         Ok(found) => found,
         Err(_) => by_several(rt, alloc, city, &[]).expect(rt, "memory"),
@@ -260,7 +265,7 @@ fn evaluates_or_runs_out_of_memory(rt: HostRuntime) {
 }
 
 /// The verdicts by `Chunked`, at the second try at the latest.
-fn by_chunks_at_last<R: Abort + Threads + Sync>(
+fn by_chunks_at_last<R: VerdictRuntime + Sync>(
     chunked: &Chunked<R>,
     alloc: Global,
     city: &VerdictInput,

@@ -11,7 +11,8 @@ use server_admission::{Arrived, Cost};
 use server_http::{
     Crowded, Queues, RequestService, ServeOutcome, ShutdownHandle, bind_first, serve_by,
 };
-use std::alloc::{AllocError, Global};
+use server_responses::HttpResult;
+use std::alloc::Global;
 use std::io::{self, Read, Write};
 use std::net::TcpStream;
 use std::test::Fail;
@@ -36,7 +37,7 @@ struct FixedAnswerService {
 impl RequestService for FixedAnswerService {
     type Head = Parts;
 
-    type Reply = Ready<Result<Response<Full<Bytes>>, AllocError>>;
+    type Reply = Ready<HttpResult>;
 
     fn resolve(&self, parts: Parts) -> Parts {
         parts

@@ -11,6 +11,7 @@ use server_admission::{Arrived, Cost};
 use server_http::{
     Crowded, Queues, RequestService, ServeOutcome, ShutdownHandle, bind_first, serve_by,
 };
+use server_responses::HttpResult;
 use std::alloc::{AllocError, Global};
 use std::io::{self, Read, Write};
 use std::net::TcpStream;
@@ -40,7 +41,7 @@ struct Echo {
 impl RequestService for Echo {
     type Head = Parts;
 
-    type Reply = Ready<Result<Response<Full<Bytes>>, AllocError>>;
+    type Reply = Ready<HttpResult>;
 
     fn resolve(&self, parts: Parts) -> Parts {
         parts

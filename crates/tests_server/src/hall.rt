@@ -14,8 +14,9 @@ use mds_parallel::Chunked;
 use mds_request::Config;
 use mds_snapshot::{Blank, prepare};
 use mds_text::Moment;
+use server_responses::HttpResult;
 use server_state::{Arrived, Hall, HallName, respond};
-use std::alloc::{AllocError, AllocGlobal, Global};
+use std::alloc::{AllocGlobal, Global};
 use std::marker::Brand;
 use std::process::Abort;
 use std::random::RandomSource;
@@ -223,11 +224,7 @@ fn has_head(response: &Response<Full<Bytes>>, status: u16) -> bool {
 }
 
 /// Whether the response is this answer.
-fn is_answer<R: HallRuntime>(
-    rt: &R,
-    response: Result<Response<Full<Bytes>>, AllocError>,
-    answer: &ExpectedAnswer,
-) -> bool {
+fn is_answer<R: HallRuntime>(rt: &R, response: HttpResult, answer: &ExpectedAnswer) -> bool {
     let Ok(response) = response else {
         return false;
     };

@@ -9,7 +9,7 @@ use mds_text::Moment;
 use server_admission::Moments;
 use server_http::{ConnectionRuntime, Queues, bind_first};
 use server_start::{HallService, serve};
-use server_state::{Hall, HallName};
+use server_state::{Hall, HallName, SharedHallName};
 use std::alloc::{AllocGlobal, Global};
 use std::io::{self, Read, Write};
 use std::marker::Brand;
@@ -240,7 +240,7 @@ where
 }
 
 /// Sends the requests, and serves concurrently.
-fn send_and_serve<K: HallName + Send + Sync, R>(
+fn send_and_serve<K: SharedHallName, R>(
     rt: &R,
     scene: LoopbackSetup,
     hall: Hall<K>,

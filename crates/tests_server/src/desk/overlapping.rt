@@ -9,6 +9,16 @@ use mds_desk::Gate;
 use std::sync::atomic::{AtomicBool, Ordering};
 use std::thread::{Threads, join};
 
+/// What tests need of the runtime.
+trait DeskRuntime: Threads + Wait + Abort {}
+
+impl<R: Threads + Wait + Abort> DeskRuntime for R {}
+
+/// The name of an opening that several threads have.
+trait SharedOpeningName: OpeningName + Send + Sync {}
+
+impl<K: OpeningName + Send + Sync> SharedOpeningName for K {}
+
 /// Flags between two threads.
 #[derive(Drop)]
 struct Signals {
@@ -109,7 +119,7 @@ fn set_up_for_both<K: OpeningName, R: Wait + Abort>(
     bravo.learn(&note);
 }
 
-fn two_desks<K: OpeningName + Send + Sync, R: Threads + Wait + Abort>(
+fn two_desks<K: SharedOpeningName, R: DeskRuntime>(
     rt: &R,
     room: &mut AuthorRoom<K>,
     alfa: &mut Desk<K>,
@@ -200,7 +210,7 @@ fn publish_meanwhile<K: OpeningName, R: Wait>(
 }
 
 /// The revisions of a run, while the author publishes in this thread.
-fn run_and_publish<K: OpeningName + Send + Sync, R: Threads + Wait>(
+fn run_and_publish<K: SharedOpeningName, R: Threads + Wait>(
     rt: &R,
     room: &mut AuthorRoom<K>,
     desk: &mut Desk<K>,
@@ -220,7 +230,7 @@ fn assert_rise(rt: &impl Abort, revisions: [u64; 3]) {
     assert!(rt; second <= third);
 }
 
-fn publication_between<K: OpeningName + Send + Sync, R: Threads + Wait + Abort>(
+fn publication_between<K: SharedOpeningName, R: DeskRuntime>(
     rt: &R,
     room: &mut AuthorRoom<K>,
     alfa: &mut Desk<K>,
@@ -242,7 +252,7 @@ enum Overlap {
 }
 
 /// Runs it on a room and desks that are furnished for the configuration.
-fn run_overlap<K: OpeningName + Send + Sync, R: Threads + Wait + Abort>(
+fn run_overlap<K: OpeningName + Send + Sync, R: DeskRuntime>(
     rt: &R,
     alloc: Global,
     config: Config,
@@ -264,11 +274,7 @@ fn run_overlap<K: OpeningName + Send + Sync, R: Threads + Wait + Abort>(
 }
 
 /// Prepares a blank, and runs it on what is furnished with that.
-fn prepare_and_run<R: Threads + Wait + Abort>(
-    rt: &R,
-    alloc: Global,
-    overlap: Overlap,
-) -> Result<(), Fail> {
+fn prepare_and_run<R: DeskRuntime>(rt: &R, alloc: Global, overlap: Overlap) -> Result<(), Fail> {
     let config = Config::read(alloc, CONFIGURATION)?;
     let blank = prepare(alloc)?;
     run_overlap::<Brand, R>(rt, alloc, config, blank, overlap)

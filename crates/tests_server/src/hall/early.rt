@@ -1,6 +1,7 @@
 //! Requests that are refused before a desk or the author's room is reached.
 use super::*;
 use mds_request::{Actor, MOST_BODY};
+use std::alloc::AllocError;
 
 const TOO_LARGE: &ExpectedAnswer = &ExpectedAnswer {
     status: 413,

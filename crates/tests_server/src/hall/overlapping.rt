@@ -3,7 +3,7 @@ use super::*;
 use crate::waiting::is_set_in_time;
 use mds_desk::Gate;
 use mds_verdict::Plain;
-use server_state::respond_with;
+use server_state::{SharedHallName, respond_with};
 use std::sync::atomic::{AtomicBool, Ordering};
 use std::thread::join;
 
@@ -18,7 +18,7 @@ const DRAFT_OF_NEXT: &HallExchange = &HallExchange {
 
 /// Flags between the threads: that the question is held, and that the others have their answers.
 #[derive(Drop)]
-struct Signals {
+struct HallSignals {
     held: AtomicBool,
     answered: AtomicBool,
 }
@@ -26,7 +26,7 @@ struct Signals {
 /// A gate that holds a question until the others have their answers, and notes whether that was in time.
 #[derive(Drop)]
 struct HeldQuestionGate<'a> {
-    signals: &'a Signals,
+    signals: &'a HallSignals,
     in_time: bool,
 }
 
@@ -60,7 +60,7 @@ struct HeldQuestion<'a, K: HallName, R> {
     rt: &'a R,
     alloc: Global,
     hall: &'a Hall<K>,
-    signals: &'a Signals,
+    signals: &'a HallSignals,
 }
 
 impl<K: HallName, R: HallRuntime> HallJob for HeldQuestion<'_, K, R> {
@@ -88,7 +88,7 @@ fn are_answered<K: HallName, R: HallRuntime + Sync>(
     rt: &R,
     alloc: Global,
     hall: &Hall<K>,
-    signals: &Signals,
+    signals: &HallSignals,
 ) -> bool {
     if !is_set_in_time(&signals.held) {
         return false;
@@ -99,13 +99,13 @@ fn are_answered<K: HallName, R: HallRuntime + Sync>(
     all
 }
 
-pub(super) fn during_a_held_question<K: HallName + Send + Sync, R: HallRuntime + Sync>(
+pub(super) fn during_a_held_question<K: SharedHallName, R: HallRuntime + Sync>(
     rt: &R,
     alloc: Global,
     hall: &Hall<K>,
 ) {
     set_up(rt, alloc, hall);
-    let signals = Signals {
+    let signals = HallSignals {
         held: AtomicBool::new(false),
         answered: AtomicBool::new(false),
     };

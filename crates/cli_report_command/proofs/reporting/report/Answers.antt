@@ -5,8 +5,8 @@ use Rattle.mds_request.specs.Configuration.{configuration, operator}
 use Rattle.cli_report_command.proofs.reporting.report.Goals as goal
 
 -- the places are of operators of the configuration
-pub write_or_clear-requires-after_bounds : goal.write_or_clear-requires-after_bounds
-write_or_clear-requires-after_bounds g c κs within =
+pub write_report-requires-after_bounds : goal.write_report-requires-after_bounds
+write_report-requires-after_bounds g c κs within =
     let config = configuration c.in_ok-config.config in
     let known = c.operators-3.result.now in
     let places = c.in_ok-places.places.items in

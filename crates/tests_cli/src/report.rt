@@ -1,6 +1,6 @@
-//! The examples of RFC 4180, and a night on which the clocks of New York are set back, worked out by hand.
-use crate::csv::push_text;
-use crate::{
+//! Tests of reports: the examples of RFC 4180, and a night on which the clocks of New York are set back, worked out by
+//! hand.
+use cli_report::{
     ReportSpan, ReportedOperator, page_start, push_page_end, push_page_operator, push_summary,
     push_verdicts, summary_header, verdicts_header,
 };
@@ -21,6 +21,13 @@ const HOUR: i64 = 3_600_000;
 const OPERATOR: &str = "11111111-1111-4111-8111-111111111111";
 /// What each row of the rule has behind the operator's cells.
 const RULE: &str = "22222222-2222-4222-8222-222222222222,,0,33333333-3333-4333-8333-333333333333,,";
+
+/// What the row of a violated sample at 01:00 has before the operator's name.
+const BEFORE_NAME: &str =
+    "2026-11-01T05:00:00Z,2026-11-01T01:00:00-04:00,11111111-1111-4111-8111-111111111111,";
+/// What it has behind the name.
+const BEHIND_NAME: &str =
+    ",22222222-2222-4222-8222-222222222222,,0,33333333-3333-4333-8333-333333333333,,violated,7,,\r\n";
 
 /// A sample of the rule, so many hours after midnight.
 fn sample(hour: i64, status: Status, measure: u64) -> Option<RuleSample> {
@@ -82,15 +89,46 @@ fn has_part(text: &[u8], part: &str) -> bool {
     false
 }
 
+/// The row of a sample of an operator with this name; nothing where there is no such zone.
+fn verdict_row(alloc: Global, name: &[u8]) -> Result<Vec<u8>, AllocError> {
+    let mut row = Vec::new(alloc);
+    let (Ok(zone), Some(id)) = (Zone::read(NEW_YORK), Id::read(OPERATOR)) else {
+        return Ok(row);
+    };
+    let catalogue = Catalogue::with_room(alloc)?;
+    let mut samples = Vec::new(alloc);
+    push_sample(&mut samples, 1, Status::Violated, 7)?;
+    let operator = ReportedOperator {
+        id,
+        name,
+        samples: &samples,
+        catalogue: &catalogue,
+    };
+    push_verdicts(alloc, &mut row, &zone, &operator)?;
+    Ok(row)
+}
+
+/// Appends the cell that an operator's name has in the row of a sample: what stands between the cells before it and
+/// those behind it.
+fn push_name_cell(out: &mut Vec<u8>, name: &[u8]) -> Result<(), AllocError> {
+    let row = verdict_row(*out.allocator(), name)?;
+    if let Some(left) = row.strip_prefix(BEFORE_NAME.as_bytes()) {
+        if let Some(cell) = left.strip_suffix(BEHIND_NAME.as_bytes()) {
+            out.extend_from_slice(cell)?;
+        }
+    }
+    Ok(())
+}
+
 // RFC 4180, section 2, rules 6 and 7.
 #[test]
 fn cells_of_csv(rt: HostRuntime) -> Result<(), AllocError> {
     let mut out = Vec::new(rt.alloc());
-    push_text(&mut out, b"aaa")?;
+    push_name_cell(&mut out, b"aaa")?;
     out.push(b',')?;
-    push_text(&mut out, b"b \r\nbb")?;
+    push_name_cell(&mut out, b"b \r\nbb")?;
     out.push(b',')?;
-    push_text(&mut out, b"b\"bb")?;
+    push_name_cell(&mut out, b"b\"bb")?;
     assert!(rt; out.as_slice() == b"aaa,\"b \r\nbb\",\"b\"\"bb\"".as_slice());
     Ok(())
 }
@@ -98,9 +136,9 @@ fn cells_of_csv(rt: HostRuntime) -> Result<(), AllocError> {
 #[test]
 fn formulas_are_texts(rt: HostRuntime) -> Result<(), AllocError> {
     let mut out = Vec::new(rt.alloc());
-    push_text(&mut out, b"=1+1")?;
-    push_text(&mut out, b"\t,")?;
-    push_text(&mut out, b"1-1")?;
+    push_name_cell(&mut out, b"=1+1")?;
+    push_name_cell(&mut out, b"\t,")?;
+    push_name_cell(&mut out, b"1-1")?;
     assert!(rt; out.as_slice() == b"'=1+1\"'\t,\"1-1".as_slice());
     Ok(())
 }

@@ -1,5 +1,5 @@
-//! Moments of RFC 3339's own examples, and both nights of 2026 on which the clocks of New York are changed.
-use crate::{date_text, day_at, local_text, moment_in, moments_between, utc_text};
+//! Tests of moments: RFC 3339's own examples, and both nights of 2026 on which the clocks of New York are changed.
+use cli_calendar::{date_text, day_at, local_text, moment_in, moments_between, utc_text};
 use mds_match::Zone;
 use mds_text::Moment;
 use std::alloc::{AllocError, Global};
