@@ -4,11 +4,11 @@
     config.py PROGRAM
 
 Expects each finding with its line and column, worked out by hand, and the exit status: of texts that stop being JSON, of members that are
-wrong or missing, of members that nobody reads, with the name that may have been meant, and of values of another kind than what is read;
-the same warnings at a start; that no server starts where `oversight` is none of its texts; the rule of POSIX's TZ variable in the place of
-a zone's name, which the test reads from the machine's file apart from the program, at a start, in /app/whoami and in an audit; and what is
-told where no file has the name; and which operator's limit is too low for a journal. Prints what is otherwise, and last
-'N passed, M failed'; ends with 1 where one failed.
+wrong or missing, of members that nobody reads, with the name that may have been meant, of members whose name stands again in the same
+object, since the last is read, and of values of another kind than what is read; the same warnings at a start; that no server starts where
+`oversight` is none of its texts; the rule of POSIX's TZ variable in the place of a zone's name, which the test reads from the machine's
+file apart from the program, at a start, in /app/whoami and in an audit; and what is told where no file has the name; and which operator's
+limit is too low for a journal. Prints what is otherwise, and last 'N passed, M failed'; ends with 1 where one failed.
 """
 
 import json
@@ -26,6 +26,7 @@ ALFA, BRAVO = identifier(0, 0xA1), identifier(0, 0xB1)
 TOKEN = "not an access token (1 to 64 of A-Z a-z 0-9 - _)"
 ZONE = "not a time zone (Z, +hh:mm, -hh:mm or a POSIX rule)"
 OVERSIGHT = 'oversight: neither "none", "verdicts" nor "vehicles"'
+AGAIN = "stands again below, so this one isn't read"
 
 
 def city(operator="", zone='"Z"', behind=""):
@@ -106,6 +107,47 @@ RIGHT = {
     ),
     "a member with members": (city(behind=',\n  "notes": {"zone": 1, "operators": [{"x": 1}]}'), ["7:3: notes: nobody reads this member"]),
     "a control character in a name": (city(behind=',\n  "a\\u001b[31m": 1'), ["7:3: a?[31m: nobody reads this member"]),
+    "a member that stands twice": (city(behind=',\n  "public": false,\n  "public": true'), [f"7:3: public: {AGAIN}"]),
+    # U+0075 is a u (RFC 8259, section 7); `"public": 1, ` has 13 characters. What isn't read counts as nothing, whatever it is.
+    "a member that stands three times, once by an escape": (
+        city(behind=',\n  "public": 1, "p\\u0075blic": "true", "public": true'),
+        [f"7:3: public: {AGAIN}", f"7:16: public: {AGAIN}"],
+    ),
+    "a last value of another kind": (
+        city(behind=',\n  "public": true,\n  "public": 1'),
+        [f"7:3: public: {AGAIN}", "8:3: public: neither true nor false, so it counts as false"],
+    ),
+    # `"zone"` begins on line 6 at column 3, `"operators"` on line 3, and `"author"` on line 2.
+    "members that have to be there, twice": (
+        city(behind=f',\n  "author": "{AUTHOR}",\n  "zone": "+01:00"'),
+        [f"2:3: author: {AGAIN}", f"6:3: zone: {AGAIN}"],
+    ),
+    # On line 4 `"limit"` begins behind 4 blanks, `{"id": ` (7), the identifier in quotes (38) and `, ` (2): at column 52.
+    "members of an operator that stand twice": (
+        city(', "name": 5, "limit": 7, "name": "Alfa"'),
+        [f"4:52: operators[0].limit: {AGAIN}", f"4:81: operators[0].name: {AGAIN}"],
+    ),
+    # The same names in several objects, and within what nobody reads. Before `"public"` stand on line 2 `{"id": ` (7), the identifier in
+    # quotes (38), `, ` (2), `"limit": 1, ` (12) and `"token": "a", ` (14), and before `"x"` on line 4 `"public": true, ` (16).
+    "the same names in several objects": (
+        f'{{"author": "city", "zone": "Z", "operators": [\n{{"id": "{ALFA}", "limit": 1, "token": "a", "public": true}},\n'
+        f'{{"id": "{BRAVO}", "token": "b", "limit": 1}}],\n"public": true, "x": {{"zone": 1, "zone": 2}}}}',
+        [
+            '2:74: operators[0].public: nobody reads this member; did you mean "public", beside "operators"?',
+            "4:17: x: nobody reads this member",
+        ],
+    ),
+    # `{"author": "city", ` has 19 characters, `"zone": "Z", ` has 13; the first operators of both lists have the same members.
+    "a list of operators that stands twice": (
+        f'{{"author": "city", "zone": "Z", "operators": [{{"id": "{ALFA}", "limit": 1, "token": "a"}}],\n'
+        f'"operators": [{{"id": "{BRAVO}", "limit": 1, "token": "b"}}]}}',
+        [f"1:33: operators: {AGAIN}"],
+    ),
+    # `"x": 1, ` has 8 characters.
+    "an unknown member that stands twice": (
+        city(behind=',\n  "x": 1, "x": 2'),
+        ["7:3: x: nobody reads this member", "7:11: x: nobody reads this member"],
+    ),
 }
 
 # A text that is no configuration, what is told of it, and what is said last.
@@ -138,9 +180,10 @@ WRONG = {
         ["3:57: operators[0] and operators[1]: the same token"],
         "operators[0] and operators[1]: the same token",
     ),
+    # Behind a blank `"operators": [], ` has 17 characters.
     "the last of equal names": (
         '{"author": "city",\n "operators": [], "zone": "Z",\n "zone": 5}',
-        [f"3:10: zone: {ZONE}"],
+        [f"2:19: zone: {AGAIN}", f"3:10: zone: {ZONE}"],
         f"zone: {ZONE}",
     ),
     "an error and a warning": (
@@ -155,10 +198,11 @@ WRONG = {
     "oversight that is empty": (city(behind=',\n  "oversight": ""'), [f"7:16: {OVERSIGHT}"], OVERSIGHT),
     "oversight that is no text": (city(behind=',\n  "oversight": true'), [f"7:16: {OVERSIGHT}"], OVERSIGHT),
     "oversight that is a list": (city(behind=',\n  "oversight": ["none"]'), [f"7:16: {OVERSIGHT}"], OVERSIGHT),
-    # `"oversight": "all", ` has 20 characters, and one more with "none": the third value is 41 behind the first.
+    # `"oversight": "all", ` has 20 characters, and one more with "none": the third value is 41 behind the first. Each has to be right, also
+    # where it isn't read.
     "each of two oversights": (
         city(behind=',\n  "oversight": "all", "oversight": "none", "oversight": 5'),
-        [f"7:16: {OVERSIGHT}", f"7:57: {OVERSIGHT}"],
+        [f"7:3: oversight: {AGAIN}", f"7:16: {OVERSIGHT}", f"7:23: oversight: {AGAIN}", f"7:57: {OVERSIGHT}"],
         OVERSIGHT,
     ),
     "a zone, a name and oversight": (
@@ -203,16 +247,19 @@ def unreadable(program):
 
 
 def started(program):
-    """A start tells the warnings, each once, and serves all the same."""
+    """A start tells the warnings, each once, and serves all the same, by the last of equal names."""
     with tempfile.TemporaryDirectory(prefix="config-") as room:
-        here = City(program, room, city(behind=',\n  "pubilc": true, "public": 1').encode())
+        here = City(program, room, city(', "name": "Alfa", "name": "Bravo"', behind=',\n  "pubilc": true, "public": 1').encode())
         wanted = [
+            f"4:81: operators[0].name: {AGAIN}",
             '7:3: pubilc: nobody reads this member; did you mean "public"?',
             "7:19: public: neither true nor false, so it counts as false",
         ]
         with here.serve() as server:
             if server.tells_everyone:
                 yield "it tells everyone"
+            if (found := json.loads(server.ask("GET", "/app/whoami", FIRST).body)["name"]) != "Bravo":
+                yield f"an operator is told that its name is {found}"
             _, _, err = server.end()
         if findings(err, here.file) != wanted:
             yield f"a start said {err!r}"

@@ -17,7 +17,7 @@ use Rattle.cli_config.specs.declared.zoning.ResolvedZone.{ResolvedZone}
 use Rattle.cli_config.specs.declared.zoning.ResolvedZone.TheVariants.{Fault}
 use Rattle.cli_config.specs.Grammar.{fault_from, fresh}
 use Rattle.cli_config.specs.Lexemes.{marks_of}
-use Rattle.cli_config.specs.Members.{member_finding}
+use Rattle.cli_config.specs.Members.{is_overridden, member_finding}
 use Rattle.cli_config.specs.Paths.{last_meant, path_text, spot_text, wrong_path}
 use Rattle.cli_config.specs.Positions.{place_at}
 use Rattle.cli_config.specs.LocatedMembers.{Seen, spots_from, start}
@@ -65,17 +65,25 @@ finding_at spot other = spot.at
 abbrev pub member_found : List ℕ → Seen → FindingKind → Told
 member_found bytes spot w = record { place = place_at bytes (finding_at spot w); member = spot_text spot; what = w }
 
-abbrev pub member_finding_here : List ℕ → Seen → List Told
-member_finding_here bytes spot = option_to_list (option_map (member_found bytes spot) (member_finding bytes spot))
+-- that it is overridden comes first, as its name stands before its value
+abbrev pub member_findings_by : List ℕ → Seen → Bool → List Told
+member_findings_by bytes spot overridden =
+    (if overridden then member_found bytes spot what.Overridden ∷ [] else [])
+    ++ option_to_list (option_map (member_found bytes spot) (member_finding bytes overridden spot))
 
--- both errors, and what is found in it, for this member or operator
-abbrev pub found_here : List ℕ → Option LocatedError → Option LocatedError → Seen → List Told
-found_here bytes wrong zone spot =
-    error_here bytes (Some spot.value.from) spot.value.from wrong ++ error_here bytes (Some spot.value.from) spot.value.from zone ++ member_finding_here bytes spot
+-- what is found in a member, by those that come after it
+abbrev pub member_findings_here : List ℕ → Seen → List Seen → List Told
+member_findings_here bytes spot later = member_findings_by bytes spot (is_overridden spot later)
+
+-- both errors, and what is found in it, for this member or operator, by those that come after it
+abbrev pub found_here : List ℕ → Option LocatedError → Option LocatedError → Seen → List Seen → List Told
+found_here bytes wrong zone spot later =
+    error_here bytes (Some spot.value.from) spot.value.from wrong ++ error_here bytes (Some spot.value.from) spot.value.from zone
+    ++ member_findings_here bytes spot later
 
 abbrev pub found_from : List ℕ → Option LocatedError → Option LocatedError → List Seen → List Told
 found_from bytes wrong faulty [] = []
-found_from bytes wrong faulty (s ∷ ss) = found_here bytes wrong faulty s ++ found_from bytes wrong faulty ss
+found_from bytes wrong faulty (s ∷ ss) = found_here bytes wrong faulty s ss ++ found_from bytes wrong faulty ss
 
 abbrev pub first_at : List LexemeAt → ℕ
 first_at [] = 0

@@ -4,7 +4,7 @@ use Rattle.mds_config_error.specs.Wording.{wrong_wording}
 use Rattle.cli_timezone.specs.Wording.{fault_wording}
 use Rattle.cli_config.specs.declared.finding.ConfigFinding.{ConfigFinding}
 use Rattle.cli_config.specs.declared.finding.FindingKind.{FindingKind}
-use Rattle.cli_config.specs.declared.finding.FindingKind.TheVariants.{Wrong, Zone, NoOversight, Unread, NoTruth, NoName}
+use Rattle.cli_config.specs.declared.finding.FindingKind.TheVariants.{Wrong, Zone, NoOversight, Unread, Overridden, NoTruth, NoName}
 use Rattle.cli_config.specs.declared.nearest.Hint.{Hint}
 use Rattle.cli_config.specs.declared.nearest.Hint.TheVariants.{Nothing, Here, Elsewhere}
 use Rattle.cli_config.specs.declared.members.KnownMember.{KnownMember}
@@ -35,6 +35,7 @@ what_wording member (Wrong w) = wrong_wording w
 what_wording member (Zone fault) = codes "zone: its file in /usr/share/zoneinfo " ++ fault_wording fault
 what_wording member NoOversight = member ++ codes ": neither \"none\", \"verdicts\" nor \"vehicles\""
 what_wording member (Unread hint) = member ++ unread_wording hint
+what_wording member Overridden = member ++ codes ": stands again below, so this one isn't read"
 what_wording member NoTruth = member ++ codes ": neither true nor false, so it counts as false"
 what_wording member NoName = member ++ codes ": no text of at most 256 bytes, so it isn't read"
 

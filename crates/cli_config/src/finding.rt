@@ -21,6 +21,8 @@ pub enum FindingKind {
     NoOversight,
     /// A warning: nobody reads the member.
     Unread(Hint),
+    /// A warning: a later member of the same object has the same name, and is read in its place.
+    Overridden,
     /// A warning: a value is neither true nor false, and counts as false.
     NoTruth,
     /// A warning: a name is no text of at most `MOST_NAME` bytes, and isn't read.
@@ -117,6 +119,10 @@ impl fmt::Display for ConfigFinding {
                 let unread = UnreadMessage(hint);
                 write!(f, "{member}{unread}")
             }
+            FindingKind::Overridden => write!(
+                f,
+                "{member}: stands again below, so this one isn't read"
+            ),
             FindingKind::NoTruth => write!(
                 f,
                 "{member}: neither true nor false, so it counts as false"
@@ -156,7 +162,8 @@ impl ConfigFinding {
     {
         match self.what {
             FindingKind::Wrong(_) | FindingKind::Zone(_) | FindingKind::NoOversight => true,
-            FindingKind::Unread(_) | FindingKind::NoTruth | FindingKind::NoName => false,
+            FindingKind::Unread(_) | FindingKind::Overridden => false,
+            FindingKind::NoTruth | FindingKind::NoName => false,
         }
     }
 

@@ -1,13 +1,13 @@
 //! Gathers the findings in a configuration's text.
-ghost use Rattle.std.specs.Prelude.{◌≡◌, ◌++◌, None, IfOk, OnOk, map, option_map};
-ghost use Rattle.cli_config.specs.Findings.{begin_of, begins_at, error_here, findings, first_at, finding_at, found_from, found_here, is_json, located, member_finding_here, spots_if, told, wrong_located, zone_located};
+ghost use Rattle.std.specs.Prelude.{◌≡◌, ◌++◌, ◌∷◌, [], None, IfOk, OnOk, map, option_map};
+ghost use Rattle.cli_config.specs.Findings.{begin_of, begins_at, error_here, findings, first_at, finding_at, found_from, found_here, is_json, located, member_findings_here, member_found, spots_if, told, wrong_located, zone_located};
 ghost use Rattle.cli_config.specs.LocatedMembers.{seen};
 
 use crate::finding::{ConfigFinding, FindingKind};
 use crate::grammar::fault_at;
 use crate::lexemes::{LexemeAt, lexemes_of};
 use crate::located_members::{LocatedMember, Value};
-use crate::member_finding::member_finding;
+use crate::member_finding::{is_overridden, member_finding};
 use crate::members::KnownMember;
 use crate::paths::{Path, last_value, member_text, path_text, wrong_path};
 use crate::position::position_of;
@@ -103,21 +103,40 @@ fn finding_at(spot: &LocatedMember, what: FindingKind) -> usize
     }
 }
 
-/// Adds what is found in a member, if there is something.
+/// Adds this finding in a member.
 fn add_member_finding(
     findings: &mut Vec<ConfigFinding>,
     alloc: Global,
     text: &[u8],
     spot: &LocatedMember,
+    what: FindingKind,
 ) -> Result<(), AllocError>
-    ensures { OnOk result (map told findings.new.items ≡ map told findings.old.items ++ member_finding_here text.now (seen spot.now)) }
+    ensures { OnOk result (map told findings.new.items ≡ map told findings.old.items ++ (member_found text.now (seen spot.now) what ∷ [])) }
 {
-    if let Some(what) = member_finding(alloc, text, spot)? {
-        findings.push(ConfigFinding {
-            place: position_of(text, finding_at(spot, what)),
-            member: member_text(alloc, spot)?,
-            what,
-        })?;
+    findings.push(ConfigFinding {
+        place: position_of(text, finding_at(spot, what)),
+        member: member_text(alloc, spot)?,
+        what,
+    })?;
+    Ok(())
+}
+
+/// Adds what is found in a member, by those that come after it.
+fn add_member_findings(
+    findings: &mut Vec<ConfigFinding>,
+    alloc: Global,
+    text: &[u8],
+    spot: &LocatedMember,
+    later: &[LocatedMember],
+) -> Result<(), AllocError>
+    ensures { OnOk result (map told findings.new.items ≡ map told findings.old.items ++ member_findings_here text.now (seen spot.now) (map seen later.now)) }
+{
+    let overridden = is_overridden(spot, later);
+    if overridden {
+        add_member_finding(findings, alloc, text, spot, FindingKind::Overridden)?;
+    }
+    if let Some(what) = member_finding(alloc, text, spot, overridden)? {
+        add_member_finding(findings, alloc, text, spot, what)?;
     }
     Ok(())
 }
@@ -129,20 +148,21 @@ struct Errors {
     zone: Option<LocatedError>,
 }
 
-/// Adds both errors and what is found in it for this member or operator.
+/// Adds both errors and what is found in it for this member or operator, by those that come after it.
 fn add_findings(
     findings: &mut Vec<ConfigFinding>,
     alloc: Global,
     text: &[u8],
     errors: Errors,
     spot: &LocatedMember,
+    later: &[LocatedMember],
 ) -> Result<(), AllocError>
-    ensures { OnOk result (map told findings.new.items ≡ map told findings.old.items ++ found_here text.now errors.wrong errors.zone (seen spot.now)) }
+    ensures { OnOk result (map told findings.new.items ≡ map told findings.old.items ++ found_here text.now errors.wrong errors.zone (seen spot.now) (map seen later.now)) }
 {
     let from = spot.value.from;
     add_error(findings, alloc, text, Some(from), from, errors.wrong)?;
     add_error(findings, alloc, text, Some(from), from, errors.zone)?;
-    add_member_finding(findings, alloc, text, spot)
+    add_member_findings(findings, alloc, text, spot, later)
 }
 
 /// Adds the findings for each of these.
@@ -155,8 +175,10 @@ fn add_each(
 ) -> Result<(), AllocError>
     ensures { OnOk result (map told findings.new.items ≡ map told findings.old.items ++ found_from text.now errors.wrong errors.zone (map seen spots.now)) }
 {
-    for spot in spots {
-        add_findings(findings, alloc, text, errors, spot)?;
+    let mut rest = spots;
+    while let Some((spot, later)) = rest.split_first() {
+        add_findings(findings, alloc, text, errors, spot, later)?;
+        rest = later;
     }
     Ok(())
 }
@@ -202,10 +224,10 @@ fn begin_of(
 }
 
 /// The findings in a configuration's text, in the order of the text. They are the first error, as
-/// `mds_config_error::diagnose` names it, at the member or at the object that lacks it, with the fault of the zone's name;
-/// an error for each member `oversight` whose value is none of its texts; and a warning for each member that nobody
-/// reads, or whose value isn't read as it is written. In a text that is no JSON, errors are at the position where it
-/// stops being JSON, and nothing is found in members.
+/// `mds_config_error::diagnose` names it, at the member or at the object that lacks it, with the fault of the zone's
+/// name; an error for each member `oversight` whose value is none of its texts; and a warning for each member that
+/// nobody reads, of which a later one is read, or whose value isn't read as it is written. In a text that is no JSON,
+/// errors are at the position where it stops being JSON, and nothing is found in members.
 ///
 /// `zoned` says what the zone's text is: what `zone_name_in` finds, with what `cli_timezone::rule_in` makes of its file.
 ///

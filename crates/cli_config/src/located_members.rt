@@ -1,5 +1,6 @@
 //! The members of a configuration and of its operators, and their positions.
 ghost use Rattle.std.specs.Prelude.{◌≡◌, ◌+◌, ◌<◌, ◌≤◌, length, IfOk, string_bytes};
+ghost use Rattle.cli_config.specs.LocatedMembers.{has_name, seen};
 ghost use Rattle.cli_config.specs.Pieces.{piece, unquoted};
 
 use crate::lexemes::LexemeKind;
@@ -32,6 +33,16 @@ pub(crate) struct LocatedMember {
     /// The offset of its name, or of an operator's value.
     pub(crate) at: usize,
     pub(crate) value: Value,
+}
+
+/// Whether a member has this name.
+pub(crate) fn has_name(name: &str, spot: &LocatedMember) -> bool
+    ensures { result ≡ has_name name.now (seen spot.now).name }
+{
+    match &spot.name {
+        Some(own) => name == own.as_str(),
+        None => false,
+    }
 }
 
 /// The bytes between two offsets; none where these aren't two offsets of the text, in order.

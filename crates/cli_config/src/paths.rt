@@ -2,9 +2,9 @@
 ghost use Rattle.std.specs.Prelude.{◌≡◌, ◌++◌, None, IfOk, OnOk, ◌<◌, map, string_bytes};
 ghost use Rattle.cli_config.specs.Names.{name_of};
 ghost use Rattle.cli_config.specs.Paths.{flaw_path, is_document, is_meant, is_nameless, is_operator, key_member, last_meant, names_or_is, operator_text, path_text, shown, shown_byte, spot_text, wrong_path};
-ghost use Rattle.cli_config.specs.LocatedMembers.{has_name, seen};
+ghost use Rattle.cli_config.specs.LocatedMembers.{seen};
 
-use crate::located_members::{LocatedMember, MemberOwner, Value};
+use crate::located_members::{LocatedMember, MemberOwner, Value, has_name};
 use crate::members::KnownMember;
 use mds_config_error::{Key, OperatorFlaw, Wrong};
 use std::alloc::{AllocError, Global};
@@ -69,16 +69,6 @@ fn is_operator(place: usize, owner: MemberOwner) -> bool
     }
 }
 
-/// Whether a member has this name.
-fn has_name(known: KnownMember, spot: &LocatedMember) -> bool
-    ensures { result ≡ has_name (name_of known) (seen spot.now).name }
-{
-    match &spot.name {
-        Some(own) => known.name() == own.as_str(),
-        None => false,
-    }
-}
-
 /// Whether this is an operator itself, or its member with this name.
 fn names_or_is(known: KnownMember, spot: &LocatedMember) -> bool
     ensures { result ≡ names_or_is (name_of known) (seen spot.now).name }
@@ -95,7 +85,7 @@ fn is_meant(path: Path, spot: &LocatedMember) -> bool
 {
     match path {
         Path::Document => false,
-        Path::Member(known) => spot.owner == MemberOwner::Document && has_name(known, spot),
+        Path::Member(known) => spot.owner == MemberOwner::Document && has_name(known.name(), spot),
         Path::Operator(place) => is_operator(place, spot.owner) && spot.name.is_none(),
         Path::OfOperator(place, known) => {
             is_operator(place, spot.owner) && names_or_is(known, spot)

@@ -73,6 +73,24 @@ fn warns_of_members(rt: HostRuntime) -> Result<(), Fail> {
 }
 
 #[test]
+fn warns_of_members_that_stand_again(rt: HostRuntime) -> Result<(), Fail> {
+    let alloc = rt.alloc();
+    let text = "{\"author\":\"city\",\"zone\":\"Z\",\"public\":1,\"x\":1,\"x\":2,\n\
+        \"operators\":[{\"id\":\"6f3c2a10-8d55-4b0e-9a51-0c7f4f1f2a01\",\"limit\":500,\"token\":\"scoot\",\n\
+        \"name\":5,\"n\\u0061me\":\"Scoot\"},\n\
+        {\"id\":\"6f3c2a10-8d55-4b0e-9a51-0c7f4f1f2a02\",\"limit\":500,\"token\":\"roll\"}],\n\
+        \"public\":true,\"oversight\":\"all\",\"oversight\":\"none\"}";
+    let wanted = "c.json:1:29: public: stands again below, so this one isn't read\n\
+        c.json:1:40: x: nobody reads this member\n\
+        c.json:1:46: x: nobody reads this member\n\
+        c.json:3:1: operators[0].name: stands again below, so this one isn't read\n\
+        c.json:5:15: oversight: stands again below, so this one isn't read\n\
+        !c.json:5:27: oversight: neither \"none\", \"verdicts\" nor \"vehicles\"\n";
+    assert!(rt; finds(alloc, text, wanted)?);
+    Ok(())
+}
+
+#[test]
 fn says_where_a_text_stops_being_json(rt: HostRuntime) -> Result<(), Fail> {
     let alloc = rt.alloc();
     assert!(rt;
