@@ -1,5 +1,5 @@
 -- What is wrong with the value of `page`.
-use Rattle.std.specs.Prelude.{ℕ, List, Bool, true, false, not, ◌&&◌, codes, if◌then◌else◌, Option, Some, None, is_some, Result, Ok, Err}
+use Rattle.std.specs.Prelude.{ℕ, List, Bool, true, false, not, ◌&&◌, codes, if◌then◌else◌, Option, Some, None, is_some, option_and_then, Result, Ok, Err}
 use Rattle.mds_text.specs.Fault.{Fault}
 use Rattle.mds_text.specs.Fields.{find_member, present}
 use Rattle.mds_text.specs.Reading.{read_text}
@@ -32,13 +32,17 @@ is_null value = false
 abbrev pub fault_of : Json → Option PageFault
 fault_of value = if is_null value then None else fault_among (members_in value)
 
+-- of a configuration's document
+abbrev pub fault_at : Json → Option PageFault
+fault_at document = option_and_then fault_of (option_and_then (find_member (codes "page")) (members_in document))
+
 abbrev pub fault_read : Result Json Fault → Option PageFault
-fault_read (Ok value) = fault_of value
+fault_read (Ok document) = fault_at document
 fault_read (Err fault) = None
 
--- of the value's text
+-- of its text
 abbrev pub page_fault : List ℕ → Option PageFault
-page_fault value = fault_read (read_text value)
+page_fault configuration = fault_read (read_text configuration)
 
 -- the rest of a message, after the member's name
 abbrev pub fault_wording : PageFault → List ℕ

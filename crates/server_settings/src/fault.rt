@@ -1,9 +1,9 @@
-//! What is wrong with the value of `page`.
+//! What is wrong with the member `page` of a configuration.
 ghost use Rattle.std.specs.Prelude.{◌≡◌, IfOk, is_some, map, option_map};
 ghost use Rattle.mds_text.specs.Fields.{present};
 ghost use Rattle.mds_text.specs.Tree.{members_of};
 ghost use Rattle.mds_text.specs.View.{member_view, view};
-ghost use Rattle.server_settings.specs.Faults.{fault_in, fault_of, fault_wording, is_null, is_wrong, page_fault};
+ghost use Rattle.server_settings.specs.Faults.{fault_at, fault_in, fault_of, fault_wording, is_null, is_wrong, page_fault};
 
 use crate::first_view::view_in;
 use crate::settings::{
@@ -97,17 +97,24 @@ fn fault_of(value: &Tree) -> Option<PageFault>
     }
 }
 
-/// What is wrong with the value of `page`, by its text; nothing with one that is absent, which is null, and with a text
-/// that is no JSON.
+/// What is wrong with the member `page` of a configuration's document.
+fn fault_at(configuration: &Tree) -> Option<PageFault>
+    ensures { result ≡ fault_at (view configuration.now) }
+{
+    fault_of(find_member(members_in(configuration)?, "page")?)
+}
+
+/// What is wrong with the member `page` of a configuration: the first part that is there, where null counts as absent, and
+/// isn't what it has to be. Nothing is where there is no such member, nor in a text that is no JSON.
 ///
 /// # Errors
 ///
 /// Out of memory.
-pub fn page_fault(alloc: Global, value: &[u8]) -> Result<Option<PageFault>, AllocError>
-    ensures { IfOk result (λ fault. fault ≡ page_fault value.now) }
+pub fn page_fault(alloc: Global, configuration: &[u8]) -> Result<Option<PageFault>, AllocError>
+    ensures { IfOk result (λ fault. fault ≡ page_fault configuration.now) }
 {
-    match read_tree(alloc, value) {
-        Ok(tree) => Ok(fault_of(&tree)),
+    match read_tree(alloc, configuration) {
+        Ok(tree) => Ok(fault_at(&tree)),
         Err(TextFault::NoMemory) => Err(AllocError),
         Err(_) => Ok(None),
     }

@@ -54,19 +54,25 @@ fn a_policy_names_the_origin(rt: HostRuntime) {
 #[test]
 fn what_is_wrong_is_named(rt: HostRuntime) {
     let alloc = rt.alloc();
-    let named = |value: &[u8]| page_fault(alloc, value).ok();
+    let named = |text: &[u8]| page_fault(alloc, text).ok();
     assert!(rt; named(b"{}") == Some(None));
-    assert!(rt; named(b"null") == Some(None));
-    assert!(rt; named(b"{\"title\":null,\"more\":1}") == Some(None));
-    assert!(rt; named(b"[]") == Some(Some(PageFault::NoObject)));
-    assert!(rt; named(b"{\"title\":\"\"}") == Some(Some(PageFault::Title)));
+    assert!(rt; named(b"{\"page\":null}") == Some(None));
+    assert!(rt; named(b"{\"page\":{\"title\":null,\"more\":1}}") == Some(None));
+    assert!(rt; named(b"{\"page\":[]}") == Some(Some(PageFault::NoObject)));
+    assert!(rt; named(b"{\"page\":{\"title\":\"\"}}") == Some(Some(PageFault::Title)));
     assert!(rt;
-        named(b"{\"view\":{\"lat\":90.1,\"lng\":0,\"zoom\":1}}") == Some(Some(PageFault::View))
+        named(b"{\"page\":{\"view\":{\"lat\":90.1,\"lng\":0,\"zoom\":1}}}")
+            == Some(Some(PageFault::View))
     );
-    assert!(rt; named(b"{\"view\":{\"lat\":90,\"lng\":-180,\"zoom\":22}}") == Some(None));
     assert!(rt;
-        named(b"{\"view\":{\"lat\":0,\"lng\":0,\"zoom\":23}}") == Some(Some(PageFault::View))
+        named(b"{\"page\":{\"view\":{\"lat\":90,\"lng\":-180,\"zoom\":22}}}") == Some(None)
     );
-    assert!(rt; named(b"{\"tiles\":\"//t/{z}/{x}/{y}\"}") == Some(Some(PageFault::Tiles)));
-    assert!(rt; named(b"{\"attribution\":7}") == Some(Some(PageFault::Attribution)));
+    assert!(rt;
+        named(b"{\"page\":{\"view\":{\"lat\":0,\"lng\":0,\"zoom\":23}}}")
+            == Some(Some(PageFault::View))
+    );
+    assert!(rt;
+        named(b"{\"page\":{\"tiles\":\"//t/{z}/{x}/{y}\"}}") == Some(Some(PageFault::Tiles))
+    );
+    assert!(rt; named(b"{\"page\":{\"attribution\":7}}") == Some(Some(PageFault::Attribution)));
 }
