@@ -8,7 +8,8 @@ wrong or missing, of members that nobody reads, with the name that may have been
 object, since the last is read, and of values of another kind than what is read; the same warnings at a start; that no server starts where
 `oversight` is none of its texts, or a part of `page` is wrong; the rule of POSIX's TZ variable in the place of a zone's name, which the
 test reads from the machine's file apart from the program, at a start, in /app/whoami and in an audit; and what is told where no file has
-the name; and which operator's limit is too low for a journal. Prints what is otherwise, and last 'N passed, M failed'; ends with 1 where one failed.
+the name; and which operator's limit is too low for a journal. Prints what is otherwise, and last 'N passed, M failed'; ends with 1 where
+one failed.
 """
 
 import json

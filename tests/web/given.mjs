@@ -25,10 +25,11 @@ const others = (page, city) => page.asked.map((it) => it.url).filter((it) => it.
 
 /** The page with all of it. At zoom 2 the world is four tiles wide; 45° west and 45° north lie in column 1 and row 1. */
 async function shown(page, city, tiles, { is, ok }) {
-  is("the title is the heading", await page.text("#city"), TITLE);
-  is("and the document's, as text", await page.run(() => [document.title, document.querySelectorAll("#city b").length].join()), `${TITLE},0`);
-  is("the attribution is text", await page.text("#attribution"), ATTRIBUTION);
   await page.until(() => import("/state.js").then(({ state }) => state.me && state.readAt));
+  is("the title is the heading", await page.text("#city"), TITLE);
+  const said = await page.run(() => [document.title, document.querySelectorAll("#city b").length].join());
+  is("and the document's, as text", said, `${TITLE},0`);
+  is("the attribution is text", await page.text("#attribution"), ATTRIBUTION);
   for (let turn = 0; turn < 100 && !tiles.asked.includes("/2/1/1"); turn++) await new Promise((done) => { setTimeout(done, 50); });
   ok("the tile of the first view is asked for", tiles.asked.includes("/2/1/1"), tiles.asked.join());
   ok("and none of another zoom", tiles.asked.every((it) => it.startsWith("/2/")), tiles.asked.join());
