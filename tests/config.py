@@ -6,10 +6,10 @@
 Expects each finding with its line and column, worked out by hand, and the exit status: of texts that stop being JSON, of members that are
 wrong or missing, of members that nobody reads, with the name that may have been meant, of members whose name stands again in the same
 object, since the last is read, and of values of another kind than what is read; the same warnings at a start; that no server starts where
-`oversight` is none of its texts; the rule of POSIX's TZ variable in the place of a zone's name, which the test reads from the machine's
-file apart from the program, at a start, in /app/whoami and in an audit; and what is told where no file has the name; which operator's
-limit is too low for a journal; and that --help and the manual page name each member and each option. Prints what is otherwise, and last
-'N passed, M failed'; ends with 1 where one failed.
+`oversight` is none of its texts, or a part of `page` is wrong; the rule of POSIX's TZ variable in the place of a zone's name, which the
+test reads from the machine's file apart from the program, at a start, in /app/whoami and in an audit; and what is told where no file has
+the name; which operator's limit is too low for a journal; and that --help and the manual page name each member and each option. Prints
+what is otherwise, and last 'N passed, M failed'; ends with 1 where one failed.
 """
 
 import json
@@ -28,6 +28,9 @@ ALFA, BRAVO = identifier(0, 0xA1), identifier(0, 0xB1)
 TOKEN = "not an access token (1 to 64 of A-Z a-z 0-9 - _)"
 ZONE = "not a time zone (Z, +hh:mm, -hh:mm or a POSIX rule)"
 OVERSIGHT = 'oversight: neither "none", "verdicts" nor "vehicles"'
+PAGE = "page: a part of it is wrong"
+VIEW = "no object with lat from -90 to 90, lng from -180 to 180 and a whole zoom from 0 to 22"
+TILES = "https://tiles.example.org/{z}/{x}/{y}.png"
 AGAIN = "stands again below, so this one isn't read"
 
 
@@ -145,6 +148,16 @@ RIGHT = {
         f'"operators": [{{"id": "{BRAVO}", "limit": 1, "token": "b"}}]}}',
         [f"1:33: operators: {AGAIN}"],
     ),
+    "a page": (
+        city(behind=f',\n  "page": {{"title": "{"é" * 100}", "view": {{"lat": -90, "lng": 180.0, "zoom": 22}}, "tiles": "{TILES}"}}'),
+        [],
+    ),
+    "a page of nothing": (city(behind=',\n  "page": {"title": null, "view": null, "tiles": null, "attribution": null}'), []),
+    "null in the place of a page": (city(behind=',\n  "page": null'), []),
+    "a page of an operator": (
+        city(', "page": {}'),
+        ['4:81: operators[0].page: nobody reads this member; did you mean "page", beside "operators"?'],
+    ),
     # `"x": 1, ` has 8 characters.
     "an unknown member that stands twice": (
         city(behind=',\n  "x": 1, "x": 2'),
@@ -205,6 +218,46 @@ WRONG = {
     "each of two oversights": (
         city(behind=',\n  "oversight": "all", "oversight": "none", "oversight": 5'),
         [f"7:3: oversight: {AGAIN}", f"7:16: {OVERSIGHT}", f"7:23: oversight: {AGAIN}", f"7:57: {OVERSIGHT}"],
+        OVERSIGHT,
+    ),
+    # Behind two blanks `"page": ` has 8 characters.
+    "a page that is a text": (city(behind=',\n  "page": "T"'), ["7:11: page: no object"], PAGE),
+    "a title that is empty": (city(behind=',\n  "page": {"title": ""}'), ["7:11: page.title: no text of 1 to 100 characters"], PAGE),
+    "a title that is too long": (
+        city(behind=f',\n  "page": {{"title": "{"é" * 101}"}}'),
+        ["7:11: page.title: no text of 1 to 100 characters"],
+        PAGE,
+    ),
+    "a view without a zoom": (city(behind=',\n  "page": {"view": {"lat": 1, "lng": 2}}'), [f"7:11: page.view: {VIEW}"], PAGE),
+    "a view beyond the pole": (
+        city(behind=',\n  "page": {"view": {"lat": 90.1, "lng": 2, "zoom": 3}}'),
+        [f"7:11: page.view: {VIEW}"],
+        PAGE,
+    ),
+    "tiles without a row": (
+        city(behind=',\n  "page": {"tiles": "https://tiles.example.org/{z}/{x}.png"}'),
+        ["7:11: page.tiles: no address as https://HOST/{z}/{x}/{y}.png"],
+        PAGE,
+    ),
+    "tiles that would end the policy": (
+        city(behind=',\n  "page": {"tiles": "https://a; script-src https://b/{z}/{x}/{y}"}'),
+        ["7:11: page.tiles: no address as https://HOST/{z}/{x}/{y}.png"],
+        PAGE,
+    ),
+    "an attribution that is a number": (
+        city(behind=',\n  "page": {"attribution": 5}'),
+        ["7:11: page.attribution: no text of 1 to 200 characters"],
+        PAGE,
+    ),
+    # `"page": 1, ` has 11 characters. The last of equal names is read.
+    "the last of two pages": (
+        city(behind=',\n  "page": 1, "page": 2'),
+        [f"7:3: page: {AGAIN}", "7:22: page: no object"],
+        PAGE,
+    ),
+    "a page and oversight": (
+        city(behind=',\n  "page": 5,\n  "oversight": "all"'),
+        ["7:11: page: no object", f"8:16: {OVERSIGHT}"],
         OVERSIGHT,
     ),
     "a zone, a name and oversight": (
@@ -271,16 +324,18 @@ def started(program):
 
 
 def watched(program):
-    """A start with an oversight that is none is refused, with the place of its value and all else that is found; without it, it serves."""
+    """A start with an oversight that is none, or with a wrong page, is refused, with the place of its value and all else that is found;
+    without it, it serves."""
     with tempfile.TemporaryDirectory(prefix="config-") as room:
-        for zone, behind, wanted in (
-            ('"Z"', '"oversight": "vehicle"', [f"7:16: {OVERSIGHT}"]),
-            ('"Z"', '"oversight": 1, "x": 2', [f"7:16: {OVERSIGHT}", "7:19: x: nobody reads this member"]),
-            ("5", '"oversight": "all"', [f"6:11: zone: {ZONE}", f"7:16: {OVERSIGHT}"]),
+        for zone, behind, wanted, what in (
+            ('"Z"', '"oversight": "vehicle"', [f"7:16: {OVERSIGHT}"], OVERSIGHT),
+            ('"Z"', '"oversight": 1, "x": 2', [f"7:16: {OVERSIGHT}", "7:19: x: nobody reads this member"], OVERSIGHT),
+            ("5", '"oversight": "all"', [f"6:11: zone: {ZONE}", f"7:16: {OVERSIGHT}"], OVERSIGHT),
+            ('"Z"', '"page": {"view": 5}, "x": 2', [f"7:11: page.view: {VIEW}", "7:24: x: nobody reads this member"], PAGE),
         ):
             here = City(program, room, city(zone=zone, behind=f",\n  {behind}").encode())
             status, out, err = here.refused()
-            last = [f"ruffletuff: the configuration is wrong: {here.file}", OVERSIGHT]
+            last = [f"ruffletuff: the configuration is wrong: {here.file}", what]
             said = err.decode().splitlines()
             if status != 2 or out or findings(err, here.file) != wanted or said[len(wanted) :] != last:
                 yield f"a start with {behind}: {status}, {out!r}, {err!r}"

@@ -6,16 +6,18 @@
 Expects for each file, at / or at its name: 200 with the bytes of web/, its type, a strong tag that is the SHA-256 of the bytes, and
 the fields that bind a browser; the same without the bytes for HEAD (RFC 9110, section 9.3.2); 304 without a body where `if-none-match`
 names the tag, weak or in a list, or is `*` (section 13.1.2), and 200 where it names another; 405 with `allow` for other methods
-(section 15.5.6). A query changes nothing. No path of the protocol, and none that is no file's, is answered by the page. Prints what is
-otherwise, and last 'N passed, M failed'; ends with 1 where one failed.
+(section 15.5.6). A query changes nothing. No path of the protocol, and none that is no file's, is answered by the page. With a member
+`page` the settings are what it gives, and the content policy has the origin of its tiles, and no more, beside the page's own pictures.
+Prints what is otherwise, and last 'N passed, M failed'; ends with 1 where one failed.
 """
 
 import hashlib
+import json
 import os
 import sys
 
 from kept import Alone, Tried
-from wire import Link
+from wire import Link, configuration
 
 TOP = os.path.dirname(os.path.dirname(os.path.abspath(__file__)))
 TYPES = {
@@ -27,6 +29,17 @@ TYPES = {
 SOURCES = (
     "default-src 'none'; script-src 'self'; worker-src 'self'; style-src 'self'; img-src 'self' data:; connect-src 'self'; "
     "form-action 'none'; base-uri 'none'; frame-ancestors 'none'"
+)
+PAGE = {
+    "title": "<b>River</b> City",
+    "view": {"lat": 45.52, "lng": -122, "zoom": 12},
+    "tiles": "https://tiles.example.org:8443/{z}/{x}/{y}.png?key=a",
+    "attribution": "© the makers",
+}
+TOLD = {"city": PAGE["title"], **{name: PAGE[name] for name in ("view", "tiles", "attribution")}}
+SOURCES_WITH_TILES = (
+    "default-src 'none'; script-src 'self'; worker-src 'self'; style-src 'self'; img-src 'self' data: https://tiles.example.org:8443; "
+    "connect-src 'self'; form-action 'none'; base-uri 'none'; frame-ancestors 'none'"
 )
 OTHERS = (
     *("/policies", "/geographies", "/fleet/vehicles", "/fleet/events", "/compliance", "/publish", "/drafts/policies/page.css"),
@@ -54,15 +67,15 @@ def version(fields, tag, what):
     expect(fields.get("cache-control") == "no-cache", f"{what}: cache-control {fields.get('cache-control')}")
 
 
-def whole(fields, kind, length, what):
+def whole(fields, kind, length, sources, what):
     """The fields of a whole file."""
     wanted = {"content-type": kind, "content-length": str(length), "x-content-type-options": "nosniff", "referrer-policy": "no-referrer",
-              "content-security-policy": SOURCES}
+              "content-security-policy": sources}
     for name, text in wanted.items():
         expect(fields.get(name) == text, f"{what}: {name} is {fields.get(name)}, not {text}")
 
 
-def file_is_told(link, path, kind, text):
+def file_is_told(link, path, kind, text, sources=SOURCES):
     """One file, in each way in which it is asked for."""
     tag = f'"{hashlib.sha256(text).hexdigest()}"'
     for method in ("GET", "HEAD"):
@@ -71,7 +84,7 @@ def file_is_told(link, path, kind, text):
             expect(status == 200, f"{method} {target}: {status}")
             expect(body == (text if method == "GET" else b""), f"{method} {target}: another body")
             version(fields, tag, f"{method} {target}")
-            whole(fields, kind, len(text), f"{method} {target}")
+            whole(fields, kind, len(text), sources, f"{method} {target}")
         for held in (tag, f"W/{tag}", f'"a,b" , {tag}', f'W/"x",W/{tag},"y"', "*", " * "):
             status, fields, body = ask(link, method, path, held)
             expect((status, body) == (304, b""), f"{method} {path}, if-none-match {held}: {status}, {len(body)} bytes")
@@ -106,6 +119,22 @@ def others_are_untouched(link):
             expect("etag" not in fields, f"{method} {path}: a tag")
 
 
+def settings_are_given(link):
+    """What the configuration's member `page` gives; the files are the same but for the policy."""
+    status, _, body = ask(link, "GET", "/settings.json")
+    expect(status == 200, f"GET /settings.json: {status}")
+    expect(json.loads(body) == TOLD, f"GET /settings.json: {body}")
+    file_is_told(link, "/settings.json", TYPES[".json"], body, SOURCES_WITH_TILES)
+    with open(f"{TOP}/web/index.html", "rb") as file:
+        file_is_told(link, "/", TYPES[".html"], file.read(), SOURCES_WITH_TILES)
+
+
+def settings_are_usual(link):
+    """A member `page` that is null is as none."""
+    with open(f"{TOP}/web/settings.json", "rb") as file:
+        file_is_told(link, "/settings.json", TYPES[".json"], file.read())
+
+
 def asked(city, call, *words):
     """Asks over a connection of its own. Nothing comes behind the answers."""
     with Link(city.port) as link:
@@ -127,6 +156,9 @@ def main():
             tried.one(name, asked(city, file_is_told, path, kind, text))
         tried.one("a whole URI", asked(city, a_whole_uri_is_told))
         tried.one("other paths", asked(city, others_are_untouched))
+    for what, page, call in (("a page", PAGE, settings_are_given), ("no page", None, settings_are_usual)):
+        with Alone(os.path.abspath(sys.argv[1]), json.dumps({**json.loads(configuration(2)), "page": page}).encode()) as city:
+            tried.one(what, asked(city, call))
     return tried.told()
 
 

@@ -46,12 +46,14 @@ function frame() {
   layers.drawScale(ctx, view);
 }
 
-/** Shows what the settings say, where they do. */
-function showFirst() {
+/** Shows the view that the settings give, or all where they give none. */
+export function showFirst() {
   const first = state.settings.view;
-  if (!first) return;
-  [view.x, view.y] = mercator(first.lng, first.lat);
-  view.scale = NEAREST * 2 ** first.zoom;
+  if (!first) return fit();
+  const [x, y] = mercator(first.lng, first.lat);
+  view.x = x;
+  view.y = Math.min(1, Math.max(0, y));
+  view.scale = Math.min(FARTHEST, NEAREST * 2 ** first.zoom);
   draw();
 }
 
@@ -66,7 +68,7 @@ export function fit(ids) {
     boxes = [boxOf(Array.from(state.fleet.x.subarray(0, 5000), (x, row) => [x, state.fleet.y[row]]))];
   }
   if (!boxes.length) {
-    if (!ids) showFirst();
+    if (!ids && state.settings.view) showFirst();
     return;
   }
   const [west, north, east, south] = boxOf(boxes.flatMap((box) => [[box[0], box[1]], [box[2], box[3]]]));
@@ -80,9 +82,9 @@ export function fit(ids) {
 /** Brings the map into sight, where the page is narrow and scrolls. */
 export const reveal = () => canvas.scrollIntoView({ block: "nearest" });
 
-/** Shows all, unless somebody has moved the map already. */
+/** The same, unless somebody has moved the map already. */
 export function fitFirst() {
-  if (!wasMoved) fit();
+  if (!wasMoved) showFirst();
 }
 
 function zoom(by, px = view.width / 2, py = view.height / 2) {

@@ -264,7 +264,7 @@ async function begin(me, clock, who) {
   showWork();
   retry = 0;
   await refresh(true);
-  map.fit();
+  map.showFirst();
 }
 
 async function enter(isDropped) {

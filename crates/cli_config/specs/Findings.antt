@@ -3,11 +3,13 @@ use Rattle.std.specs.Prelude.{ℕ, List, [], ◌∷◌, ◌++◌, Bool, true, fa
 use Rattle.mds_config_error.specs.Diagnosis.{wrong_in}
 use Rattle.mds_config_error.specs.declared.wrong.Wrong.{Wrong}
 use Rattle.mds_config_error.specs.declared.wrong.Wrong.TheVariants as wrong
+use Rattle.server_settings.specs.Faults.{page_fault}
+use Rattle.server_settings.specs.declared.fault.PageFault.{PageFault}
 use Rattle.cli_config.specs.declared.finding.ConfigFinding.{ConfigFinding}
 use Rattle.cli_config.specs.declared.finding.FindingKind.{FindingKind}
 use Rattle.cli_config.specs.declared.finding.FindingKind.TheVariants as what
 use Rattle.cli_config.specs.declared.lexemes.LexemeAt.{LexemeAt}
-use Rattle.cli_config.specs.declared.members.KnownMember.TheVariants.{Zone}
+use Rattle.cli_config.specs.declared.members.KnownMember.TheVariants.{Page, Zone}
 use Rattle.cli_config.specs.declared.paths.Path.{Path}
 use Rattle.cli_config.specs.declared.paths.Path.TheVariants.{Member}
 use Rattle.cli_config.specs.declared.position.TextPosition.{TextPosition}
@@ -44,6 +46,10 @@ abbrev pub zone_located : List Seen → ResolvedZone → Option LocatedError
 zone_located spots (Fault fault) = Some (located spots (Member Zone) (what.Zone fault))
 zone_located spots other = None
 
+abbrev pub page_located : List Seen → Option PageFault → Option LocatedError
+page_located spots None = None
+page_located spots (Some fault) = Some (located spots (Member Page) (what.NoPage fault))
+
 -- an error that is in no value is at the beginning
 abbrev pub begins_at : Option ℕ → Option Value → Bool
 begins_at None None = true
@@ -75,15 +81,15 @@ member_findings_by bytes spot overridden =
 abbrev pub member_findings_here : List ℕ → Seen → List Seen → List Told
 member_findings_here bytes spot later = member_findings_by bytes spot (is_overridden spot later)
 
--- both errors, and what is found in it, for this member or operator, by those that come after it
-abbrev pub found_here : List ℕ → Option LocatedError → Option LocatedError → Seen → List Seen → List Told
-found_here bytes wrong zone spot later =
+-- the errors, and what is found in it, for this member or operator, by those that come after it
+abbrev pub found_here : List ℕ → Option LocatedError → Option LocatedError → Option LocatedError → Seen → List Seen → List Told
+found_here bytes wrong zone page spot later =
     error_here bytes (Some spot.value.from) spot.value.from wrong ++ error_here bytes (Some spot.value.from) spot.value.from zone
-    ++ member_findings_here bytes spot later
+    ++ error_here bytes (Some spot.value.from) spot.value.from page ++ member_findings_here bytes spot later
 
-abbrev pub found_from : List ℕ → Option LocatedError → Option LocatedError → List Seen → List Told
-found_from bytes wrong faulty [] = []
-found_from bytes wrong faulty (s ∷ ss) = found_here bytes wrong faulty s ss ++ found_from bytes wrong faulty ss
+abbrev pub found_from : List ℕ → Option LocatedError → Option LocatedError → Option LocatedError → List Seen → List Told
+found_from bytes wrong faulty page [] = []
+found_from bytes wrong faulty page (s ∷ ss) = found_here bytes wrong faulty page s ss ++ found_from bytes wrong faulty page ss
 
 abbrev pub first_at : List LexemeAt → ℕ
 first_at [] = 0
@@ -103,14 +109,16 @@ abbrev pub begin_of : Bool → List ℕ → List LexemeAt → ℕ
 begin_of true bytes marks = first_at marks
 begin_of false bytes marks = fault_from bytes fresh marks
 
-abbrev pub found_among : List ℕ → ℕ → Option LocatedError → Option LocatedError → List Seen → List Told
-found_among bytes begin wrong zone spots =
-    error_here bytes None begin wrong ++ error_here bytes None begin zone ++ found_from bytes wrong zone spots
+abbrev pub found_among : List ℕ → ℕ → Option LocatedError → Option LocatedError → Option LocatedError → List Seen → List Told
+found_among bytes begin wrong zone page spots =
+    error_here bytes None begin wrong ++ error_here bytes None begin zone ++ error_here bytes None begin page
+    ++ found_from bytes wrong zone page spots
 
 abbrev pub found_in : List ℕ → List LexemeAt → ResolvedZone → Option Wrong → List Told
 found_in bytes marks zoned wrong =
     let spots = spots_if (is_json wrong) bytes marks in
-    found_among bytes (begin_of (is_json wrong) bytes marks) (wrong_located spots wrong) (zone_located spots zoned) spots
+    found_among bytes (begin_of (is_json wrong) bytes marks) (wrong_located spots wrong) (zone_located spots zoned)
+    (page_located spots (page_fault bytes)) spots
 
 -- the findings in a text, whose zone is this
 abbrev pub findings : List ℕ → ResolvedZone → List Told

@@ -1,7 +1,7 @@
 -- Which members of a configuration are read, by which crate, and what is found in the others, in those of which a later one
 -- is read, and in values that are none of theirs.
 --   author, operators, zone: mds_request (configuration), server_app (answers), mds_config_error; public: server_public
---   oversight: server_app
+--   oversight: server_app; page: server_settings
 --   id, limit, token of an operator: mds_request and mds_config_error; name of an operator: server_app
 use Rattle.std.specs.Prelude.{ℕ, List, [], ◌∷◌, Bool, true, false, not, ◌||◌, ◌&&◌, bytes_eq, codes, nat_le, length, if◌then◌else◌, Option, Some, None, is_some}
 use Rattle.std.specs.List.{list_any}

@@ -1,7 +1,7 @@
 -- The names of the members that are read.
 use Rattle.std.specs.Prelude.{ℕ, List, [], ◌∷◌, codes}
 use Rattle.cli_config.specs.declared.members.KnownMember.{KnownMember}
-use Rattle.cli_config.specs.declared.members.KnownMember.TheVariants.{Author, Operators, Oversight, Public, Zone, Id, Limit, Name, Token}
+use Rattle.cli_config.specs.declared.members.KnownMember.TheVariants.{Author, Operators, Oversight, Page, Public, Zone, Id, Limit, Name, Token}
 use Rattle.cli_config.specs.declared.located_members.MemberOwner.{MemberOwner}
 use Rattle.cli_config.specs.declared.located_members.MemberOwner.TheVariants.{Document, Operator}
 
@@ -9,6 +9,7 @@ abbrev pub name_of : KnownMember → List ℕ
 name_of Author = codes "author"
 name_of Operators = codes "operators"
 name_of Oversight = codes "oversight"
+name_of Page = codes "page"
 name_of Public = codes "public"
 name_of Zone = codes "zone"
 name_of Id = codes "id"
@@ -18,7 +19,7 @@ name_of Token = codes "token"
 
 -- the members of the configuration
 abbrev pub of_document : List KnownMember
-of_document = Author ∷ Operators ∷ Oversight ∷ Public ∷ Zone ∷ []
+of_document = Author ∷ Operators ∷ Oversight ∷ Page ∷ Public ∷ Zone ∷ []
 
 -- the members of an operator
 abbrev pub of_operator : List KnownMember

@@ -2,9 +2,10 @@
 use Rattle.std.specs.Prelude.{ℕ, List, [], ◌++◌, Bool, true, false, codes, decimal, string_bytes}
 use Rattle.mds_config_error.specs.Wording.{wrong_wording}
 use Rattle.cli_timezone.specs.Wording.{fault_wording}
+use Rattle.server_settings.specs.Faults.{fault_wording as page_wording}
 use Rattle.cli_config.specs.declared.finding.ConfigFinding.{ConfigFinding}
 use Rattle.cli_config.specs.declared.finding.FindingKind.{FindingKind}
-use Rattle.cli_config.specs.declared.finding.FindingKind.TheVariants.{Wrong, Zone, NoOversight, Unread, Overridden, NoTruth, NoName}
+use Rattle.cli_config.specs.declared.finding.FindingKind.TheVariants.{Wrong, Zone, NoOversight, NoPage, Unread, Overridden, NoTruth, NoName}
 use Rattle.cli_config.specs.declared.nearest.Hint.{Hint}
 use Rattle.cli_config.specs.declared.nearest.Hint.TheVariants.{Nothing, Here, Elsewhere}
 use Rattle.cli_config.specs.declared.members.KnownMember.{KnownMember}
@@ -17,6 +18,7 @@ abbrev pub home_wording : KnownMember → List ℕ
 home_wording known.Author = codes ", beside \"operators\""
 home_wording known.Operators = codes ", outside of the operators"
 home_wording known.Oversight = codes ", beside \"operators\""
+home_wording known.Page = codes ", beside \"operators\""
 home_wording known.Public = codes ", beside \"operators\""
 home_wording known.Zone = codes ", beside \"operators\""
 home_wording other = codes ", of an operator"
@@ -34,6 +36,7 @@ abbrev pub what_wording : List ℕ → FindingKind → List ℕ
 what_wording member (Wrong w) = wrong_wording w
 what_wording member (Zone fault) = codes "zone: its file in /usr/share/zoneinfo " ++ fault_wording fault
 what_wording member NoOversight = member ++ codes ": neither \"none\", \"verdicts\" nor \"vehicles\""
+what_wording member (NoPage fault) = member ++ page_wording fault
 what_wording member (Unread hint) = member ++ unread_wording hint
 what_wording member Overridden = member ++ codes ": stands again below, so this one isn't read"
 what_wording member NoTruth = member ++ codes ": neither true nor false, so it counts as false"
@@ -56,4 +59,5 @@ abbrev pub is_error : FindingKind → Bool
 is_error (Wrong w) = true
 is_error (Zone fault) = true
 is_error NoOversight = true
+is_error (NoPage fault) = true
 is_error other = false

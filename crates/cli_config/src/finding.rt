@@ -7,6 +7,7 @@ use crate::nearest::Hint;
 use crate::position::TextPosition;
 use cli_timezone::ZoneFileFault;
 use mds_config_error::Wrong;
+use server_settings::PageFault;
 use std::alloc::{AllocError, Global};
 use std::fmt;
 
@@ -19,6 +20,8 @@ pub enum FindingKind {
     Zone(ZoneFileFault),
     /// An error: a value is none of the texts of the member `oversight`.
     NoOversight,
+    /// An error: the value of the member `page` has a part that is wrong.
+    NoPage(PageFault),
     /// A warning: nobody reads the member.
     Unread(Hint),
     /// A warning: a later member of the same object has the same name, and is read in its place.
@@ -53,6 +56,7 @@ impl fmt::Display for KnownHome {
         f.write_str(match self.0 {
             KnownMember::Author
             | KnownMember::Oversight
+            | KnownMember::Page
             | KnownMember::Public
             | KnownMember::Zone => ", beside \"operators\"",
             KnownMember::Operators => ", outside of the operators",
@@ -115,6 +119,10 @@ impl fmt::Display for ConfigFinding {
                 f,
                 "{member}: neither \"none\", \"verdicts\" nor \"vehicles\""
             ),
+            FindingKind::NoPage(fault) => {
+                let words = fault.words();
+                write!(f, "{member}{words}")
+            }
             FindingKind::Unread(hint) => {
                 let unread = UnreadMessage(hint);
                 write!(f, "{member}{unread}")
@@ -161,7 +169,8 @@ impl ConfigFinding {
         ensures { result ≡ is_error self.now.what }
     {
         match self.what {
-            FindingKind::Wrong(_) | FindingKind::Zone(_) | FindingKind::NoOversight => true,
+            FindingKind::Wrong(_) | FindingKind::Zone(_) => true,
+            FindingKind::NoOversight | FindingKind::NoPage(_) => true,
             FindingKind::Unread(_) | FindingKind::Overridden => false,
             FindingKind::NoTruth | FindingKind::NoName => false,
         }

@@ -1,6 +1,6 @@
 //! Gathers the findings in a configuration's text.
 ghost use Rattle.std.specs.Prelude.{◌≡◌, ◌++◌, ◌∷◌, [], None, IfOk, OnOk, map, option_map};
-ghost use Rattle.cli_config.specs.Findings.{begin_of, begins_at, error_here, findings, first_at, finding_at, found_from, found_here, is_json, located, member_findings_here, member_found, spots_if, told, wrong_located, zone_located};
+ghost use Rattle.cli_config.specs.Findings.{begin_of, begins_at, error_here, findings, first_at, finding_at, found_from, found_here, is_json, located, member_findings_here, member_found, page_located, spots_if, told, wrong_located, zone_located};
 ghost use Rattle.cli_config.specs.LocatedMembers.{seen};
 
 use crate::finding::{ConfigFinding, FindingKind};
@@ -14,6 +14,7 @@ use crate::position::position_of;
 use crate::walk::members_of_text;
 use crate::zoning::{ResolvedZone, text_to_check};
 use mds_config_error::{Wrong, diagnose};
+use server_settings::{PageFault, page_fault};
 use std::alloc::{AllocError, Global};
 
 /// An error, and the value that it is in, or none.
@@ -55,6 +56,20 @@ fn locate_zone_fault(spots: &[LocatedMember], zoned: &ResolvedZone) -> Option<Lo
             FindingKind::Zone(*fault),
         )),
         ResolvedZone::Plain | ResolvedZone::Rule(_) => None,
+    }
+}
+
+/// What is wrong with its page, and where that is.
+fn locate_page_fault(spots: &[LocatedMember], fault: Option<PageFault>) -> Option<LocatedError>
+    ensures { result ≡ page_located (map seen spots.now) fault }
+{
+    match fault {
+        Some(fault) => Some(locate(
+            spots,
+            Path::Member(KnownMember::Page),
+            FindingKind::NoPage(fault),
+        )),
+        None => None,
     }
 }
 
@@ -146,9 +161,10 @@ fn add_member_findings(
 struct Errors {
     wrong: Option<LocatedError>,
     zone: Option<LocatedError>,
+    page: Option<LocatedError>,
 }
 
-/// Adds both errors and what is found in it for this member or operator, by those that come after it.
+/// Adds the errors and what is found in it for this member or operator, by those that come after it.
 fn add_findings(
     findings: &mut Vec<ConfigFinding>,
     alloc: Global,
@@ -157,11 +173,12 @@ fn add_findings(
     spot: &LocatedMember,
     later: &[LocatedMember],
 ) -> Result<(), AllocError>
-    ensures { OnOk result (map told findings.new.items ≡ map told findings.old.items ++ found_here text.now errors.wrong errors.zone (seen spot.now) (map seen later.now)) }
+    ensures { OnOk result (map told findings.new.items ≡ map told findings.old.items ++ found_here text.now errors.wrong errors.zone errors.page (seen spot.now) (map seen later.now)) }
 {
     let from = spot.value.from;
     add_error(findings, alloc, text, Some(from), from, errors.wrong)?;
     add_error(findings, alloc, text, Some(from), from, errors.zone)?;
+    add_error(findings, alloc, text, Some(from), from, errors.page)?;
     add_member_findings(findings, alloc, text, spot, later)
 }
 
@@ -173,7 +190,7 @@ fn add_each(
     errors: Errors,
     spots: &[LocatedMember],
 ) -> Result<(), AllocError>
-    ensures { OnOk result (map told findings.new.items ≡ map told findings.old.items ++ found_from text.now errors.wrong errors.zone (map seen spots.now)) }
+    ensures { OnOk result (map told findings.new.items ≡ map told findings.old.items ++ found_from text.now errors.wrong errors.zone errors.page (map seen spots.now)) }
 {
     let mut rest = spots;
     while let Some((spot, later)) = rest.split_first() {
@@ -225,7 +242,7 @@ fn begin_of(
 
 /// The findings in a configuration's text, in the order of the text. They are the first error, as
 /// `mds_config_error::diagnose` names it, at the member or at the object that lacks it, with the fault of the zone's
-/// name; an error for each member `oversight` whose value is none of its texts; and a warning for each member that
+/// name and what is wrong with the page; an error for each member `oversight` whose value is none of its texts; and a warning for each member that
 /// nobody reads, of which a later one is read, or whose value isn't read as it is written. In a text that is no JSON,
 /// errors are at the position where it stops being JSON, and nothing is found in members.
 ///
@@ -250,10 +267,12 @@ pub fn review(
     let errors = Errors {
         wrong: locate_wrong(&spots, wrong),
         zone: locate_zone_fault(&spots, zoned),
+        page: locate_page_fault(&spots, page_fault(alloc, text)?),
     };
     let mut findings = Vec::new(alloc);
     add_error(&mut findings, alloc, text, None, begin, errors.wrong)?;
     add_error(&mut findings, alloc, text, None, begin, errors.zone)?;
+    add_error(&mut findings, alloc, text, None, begin, errors.page)?;
     add_each(&mut findings, alloc, text, errors, &spots)?;
     Ok(findings)
 }

@@ -15,6 +15,8 @@ pub enum KnownMember {
     Operators,
     /// How far the author sees how each operator stands: `"none"`, `"verdicts"` or `"vehicles"`.
     Oversight,
+    /// The title, the first view and the map tiles of the page for people.
+    Page,
     /// Whether the public documents are served: `true` or `false`.
     Public,
     Zone,
@@ -34,6 +36,7 @@ impl KnownMember {
             KnownMember::Author => "author",
             KnownMember::Operators => "operators",
             KnownMember::Oversight => "oversight",
+            KnownMember::Page => "page",
             KnownMember::Public => "public",
             KnownMember::Zone => "zone",
             KnownMember::Id => "id",
@@ -45,10 +48,11 @@ impl KnownMember {
 }
 
 /// The members of the configuration.
-const OF_DOCUMENT: [KnownMember; 5] = [
+const OF_DOCUMENT: [KnownMember; 6] = [
     KnownMember::Author,
     KnownMember::Operators,
     KnownMember::Oversight,
+    KnownMember::Page,
     KnownMember::Public,
     KnownMember::Zone,
 ];

@@ -10,7 +10,7 @@ use Rattle.journal_recovery.specs.declared.fault.StartFault.TheVariants.{Opening
 use Rattle.journal_compaction.specs.declared.fault.CompactFault.{CompactFault}
 use Rattle.journal_compaction.specs.declared.fault.CompactFault.TheVariants as thin
 use Rattle.cli_journal.specs.declared.exit_cause.ExitCause.{ExitCause}
-use Rattle.cli_journal.specs.declared.exit_cause.ExitCause.TheVariants.{Usage, Misconfigured, NoOversight, NoMemory, NoListener, NoControl, NotStopped, NotPrinted, Folder, Refused, NotKept, NotThinned, Differs, NoArchive, NotArchived, ReportFolder, ReportEntry, Report}
+use Rattle.cli_journal.specs.declared.exit_cause.ExitCause.TheVariants.{Usage, Misconfigured, NoOversight, NoPage, NoMemory, NoListener, NoControl, NotStopped, NotPrinted, Folder, Refused, NotKept, NotThinned, Differs, NoArchive, NotArchived, ReportFolder, ReportEntry, Report}
 use Rattle.cli_journal.specs.Reports.{report_status, report_message}
 
 -- an entry that can't be replayed: 503 is out of memory, and any other is one of another configuration
@@ -28,6 +28,7 @@ exit_status NotPrinted = 1
 exit_status Usage = 2
 exit_status (Misconfigured detail) = 2
 exit_status NoOversight = 2
+exit_status NoPage = 2
 exit_status NoMemory = 3
 exit_status NoArchive = 4
 exit_status (Folder fault) = folder.exit_status fault
@@ -66,6 +67,7 @@ abbrev pub message_of : ExitCause → List ℕ
 message_of Usage = codes "ruffletuff: the arguments are wrong"
 message_of (Misconfigured detail) = codes "ruffletuff: the configuration is wrong"
 message_of NoOversight = codes "ruffletuff: the configuration is wrong"
+message_of NoPage = codes "ruffletuff: the configuration is wrong"
 message_of NoMemory = out_of_memory
 message_of NoListener = codes "ruffletuff: nothing can be listened to"
 message_of NoControl = codes "ruffletuff: nothing can be listened to for control"

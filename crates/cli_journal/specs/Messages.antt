@@ -2,7 +2,7 @@
 use Rattle.std.specs.Prelude.{ℕ, List, slice_get, Option, Some, None}
 use Rattle.cli_args.specs.Commands.{Request, serve, check, check_config, audit, thin, report, stop}
 use Rattle.cli_journal.specs.declared.exit_cause.ExitCause.{ExitCause}
-use Rattle.cli_journal.specs.declared.exit_cause.ExitCause.TheVariants.{Misconfigured, NoOversight, NoListener, NoControl, NotStopped, Folder, Refused, NotKept, NotThinned, Differs, NoArchive, NotArchived, ReportFolder, ReportEntry, Report}
+use Rattle.cli_journal.specs.declared.exit_cause.ExitCause.TheVariants.{Misconfigured, NoOversight, NoPage, NoListener, NoControl, NotStopped, Folder, Refused, NotKept, NotThinned, Differs, NoArchive, NotArchived, ReportFolder, ReportEntry, Report}
 use Rattle.cli_journal.specs.declared.report_fault.ReportFault.{ReportFault}
 use Rattle.cli_journal.specs.declared.report_fault.ReportFault.TheVariants.{NoFirst, NoLast, NoTime, NoOperator, NoFolder, Present, NotWritten}
 
@@ -56,6 +56,7 @@ report_place asked fault = None
 abbrev pub place_in : Request → ExitCause → Option (List ℕ)
 place_in asked (Misconfigured detail) = config_of asked
 place_in asked NoOversight = config_of asked
+place_in asked NoPage = config_of asked
 place_in asked NoListener = listener_of asked
 place_in asked NoControl = control_of asked
 place_in asked NotStopped = control_of asked

@@ -1,7 +1,7 @@
 //! A configuration's file: its text, findings in it, and the rule in the place of its zone's name.
 ghost use Rattle.std.specs.Prelude.{◌≡◌, ◌≤◌, length, IfOk};
 ghost use Rattle.std.specs.List.{list_any};
-ghost use Rattle.cli_journal.specs.Configuring.{is_no_oversight, refused_by};
+ghost use Rattle.cli_journal.specs.Configuring.{is_no_oversight, is_no_page, refused_by};
 ghost use Rattle.mds_script.specs.declared.gather.TheConstants.{LINE_LIMIT};
 
 use crate::configuration::{check_length, text_in};
@@ -72,16 +72,33 @@ fn has_wrong_oversight(findings: &[ConfigFinding]) -> bool
     findings.iter().any(|finding| is_no_oversight(finding.what))
 }
 
+/// Whether what is found is a part of the member `page` that is wrong.
+fn is_no_page(what: FindingKind) -> bool
+    ensures { result ≡ is_no_page what }
+{
+    matches!(what, FindingKind::NoPage(_))
+}
+
+/// Whether one of these is a part of the member `page` that is wrong.
+fn has_wrong_page(findings: &[ConfigFinding]) -> bool
+    ensures { result ≡ list_any (λ f. is_no_page f.what) findings.now }
+{
+    findings.iter().any(|finding| is_no_page(finding.what))
+}
+
 /// Whether a server starts with a text in which these are found.
 ///
 /// # Errors
 ///
-/// `NoOversight` where one is a value of the member `oversight` that is none of its texts.
+/// `NoOversight` where one is a value of the member `oversight` that is none of its texts, and else `NoPage` where one is a
+/// part of the member `page` that is wrong.
 fn check_findings(findings: &[ConfigFinding]) -> Result<(), ExitCause>
     ensures { result ≡ refused_by findings.now }
 {
     if has_wrong_oversight(findings) {
         Err(ExitCause::NoOversight)
+    } else if has_wrong_page(findings) {
+        Err(ExitCause::NoPage)
     } else {
         Ok(())
     }
@@ -149,7 +166,8 @@ impl ConfigFile {
     ///
     /// # Errors
     ///
-    /// `NoOversight` where the value of a member `oversight` is none of its texts, `NoMemory`.
+    /// `NoOversight` where the value of a member `oversight` is none of its texts, `NoPage` where a part of the member
+    /// `page` is wrong, `NoMemory`.
     pub fn report_findings<R: Eprint + AllocGlobal>(
         &self,
         rt: &R,

@@ -69,7 +69,7 @@ pub fn configuration_text<R: Files<File = File> + AllocGlobal>(
 /// # Errors
 ///
 /// `Misconfigured` where it can't be read or is longer than a line of a script may be, `NoOversight` where the value of
-/// a member `oversight` is none of its texts, `NoMemory`.
+/// a member `oversight` is none of its texts, `NoPage` where a part of the member `page` is wrong, `NoMemory`.
 pub fn read_text_and_report<R: Files<File = File> + Eprint + AllocGlobal>(
     rt: &R,
     alloc: Global,

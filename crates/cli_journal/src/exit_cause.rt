@@ -19,6 +19,8 @@ pub enum ExitCause {
     Misconfigured(Detail),
     /// The member `oversight` of the configuration's file is none of its texts.
     NoOversight,
+    /// A part of the member `page` of the configuration's file is wrong.
+    NoPage,
     /// Memory ran out.
     NoMemory,
     /// The server's address can't be listened to, or threads or the polling of events couldn't be had.
@@ -97,7 +99,8 @@ impl ExitCause {
             | ExitCause::NoControl
             | ExitCause::NotStopped
             | ExitCause::NotPrinted => 1,
-            ExitCause::Usage | ExitCause::Misconfigured(_) | ExitCause::NoOversight => 2,
+            ExitCause::Usage | ExitCause::Misconfigured(_) => 2,
+            ExitCause::NoOversight | ExitCause::NoPage => 2,
             ExitCause::NoMemory => 3,
             ExitCause::NoArchive => 4,
             ExitCause::Folder(fault) | ExitCause::ReportFolder(_, fault) => fault.status(),
@@ -116,7 +119,7 @@ impl ExitCause {
     {
         match self {
             ExitCause::Usage => "ruffletuff: the arguments are wrong",
-            ExitCause::Misconfigured(_) | ExitCause::NoOversight => {
+            ExitCause::Misconfigured(_) | ExitCause::NoOversight | ExitCause::NoPage => {
                 "ruffletuff: the configuration is wrong"
             }
             ExitCause::NoMemory => "ruffletuff: memory ran out",

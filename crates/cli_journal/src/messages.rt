@@ -105,7 +105,9 @@ fn place_in<'a>(asked: &CliCommand<'a>, ending: &ExitCause) -> Option<&'a str>
     ensures { option_map (λ place. place.now) result ≡ place_in (asked_view asked.now) ending.now }
 {
     match ending {
-        ExitCause::Misconfigured(_) | ExitCause::NoOversight => config_of(asked),
+        ExitCause::Misconfigured(_) | ExitCause::NoOversight | ExitCause::NoPage => {
+            config_of(asked)
+        }
         ExitCause::NoListener => listener_of(asked),
         ExitCause::NoControl | ExitCause::NotStopped => control_of(asked),
         ExitCause::Folder(_)
@@ -157,6 +159,9 @@ fn explain<R: Eprint + AllocGlobal>(rt: &R, ending: &ExitCause) {
         }
         ExitCause::NoOversight => {
             let _ = eprintln!(rt; "oversight: neither \"none\", \"verdicts\" nor \"vehicles\"");
+        }
+        ExitCause::NoPage => {
+            let _ = eprintln!(rt; "page: a part of it is wrong");
         }
         ExitCause::Folder(fault) | ExitCause::ReportFolder(_, fault) => explain_folder(rt, fault),
         ExitCause::Refused(fault) | ExitCause::ReportEntry(_, fault) => explain_refusal(rt, fault),

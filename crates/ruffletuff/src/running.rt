@@ -110,8 +110,8 @@ fn print_version<R: Print + AllocGlobal>(rt: &R) -> Result<(), ExitCause> {
 ///
 /// # Errors
 ///
-/// `NoOversight` where its member `oversight` is none of its texts, `Misconfigured` with what is wrong, where it isn't
-/// one; `NotPrinted`, `NoMemory`.
+/// `NoOversight` where its member `oversight` is none of its texts, `NoPage` where a part of its `page` is wrong,
+/// `Misconfigured` with what is wrong, where it isn't one; `NotPrinted`, `NoMemory`.
 fn check_configuration<R: Files<File = File> + Print + Eprint + AllocGlobal>(
     rt: &R,
     path: &str,

@@ -1,4 +1,5 @@
 pub mod File
+pub mod PageSettings
 pub mod Response
 pub mod Tag
 pub mod FileReply

@@ -4,6 +4,7 @@
 mod file;
 mod file_reply;
 mod page;
+mod page_settings;
 mod response;
 mod tag;
 mod tagged_file;
@@ -13,3 +14,4 @@ mod texts;
 
 pub use file::{FILES, File};
 pub use page::Page;
+pub use page_settings::PageSettings;

@@ -1,34 +1,35 @@
 //! The page: its files with their tags.
 ghost use Rattle.std.specs.Prelude.{◌≡◌, map, IfOk};
-ghost use Rattle.server_page.specs.File.{files, text_of};
-ghost use Rattle.server_page.specs.Response.{Says};
+ghost use Rattle.server_page.specs.File.{files};
+ghost use Rattle.server_page.specs.PageSettings.{IsMadeOf, bytes_of};
 ghost use Rattle.server_page.specs.Tag.{tag_of};
-ghost use Rattle.server_page.specs.FileReply.{told_of};
 
 use crate::file::{FILES, File};
-use crate::file_reply::file_reply_of;
-use crate::response::response_of;
+use crate::page_settings::PageSettings;
 use crate::tagged_file::TaggedFile;
-use http::HeaderMap;
-use server_responses::HttpResult;
+use bytes::Bytes;
 use std::alloc::{AllocError, Global};
 
-/// The page's files, each with its tag.
+/// The page's files, each with its tag, and what a configuration makes of them.
 #[derive(Drop)]
 pub struct Page {
+    pub(crate) settings: PageSettings,
     leaves: Vec<TaggedFile>,
     ghost whole: { map (λ leaf. leaf.file) leaves.items ≡ files },
 }
 
 impl Page {
-    /// The page, with the hash of each file's bytes as its tag. It is made once, since that reads
-    /// them all.
+    /// The page with this configuration, and with the hash of each file's bytes as its tag. It is made once, since that
+    /// reads them all.
     ///
     /// # Errors
     ///
     /// Out of memory.
-    pub fn new(alloc: Global) -> Result<Page, AllocError> {
+    pub fn new(alloc: Global, configuration: &[u8]) -> Result<Page, AllocError>
+        ensures { IfOk result (λ page. IsMadeOf configuration.now page.settings) }
+    {
         Ok(Page {
+            settings: PageSettings::new(alloc, configuration)?,
             leaves: tag_files(alloc, &FILES)?,
         })
     }
@@ -41,24 +42,31 @@ impl Page {
         &self.leaves[index]
     }
 
-    /// The response to a request for a file with this method and these header fields. `HEAD` gets
-    /// the same as `GET`, and the server sends it without the body.
+    /// The tag of a file.
+    pub(crate) fn tag(&self, file: File) -> &[u8]
+        ensures { result.now ≡ tag_of (bytes_of self.now.settings file) }
+    {
+        match file {
+            File::SettingsJson => self.settings.tag.as_slice(),
+            _ => self.tagged_file(file).tag.as_slice(),
+        }
+    }
+
+    /// The bytes of a file.
     ///
     /// # Errors
     ///
     /// Out of memory.
-    pub fn respond(
-        &self,
-        alloc: Global,
-        file: File,
-        method: &[u8],
-        headers: &HeaderMap,
-    ) -> HttpResult
-        ensures { IfOk result (Says (told_of method.now headers.now (tag_of (text_of file))) file) }
+    pub(crate) fn bytes(&self, alloc: Global, file: File) -> Result<Bytes, AllocError>
+        ensures { IfOk result (λ bytes. bytes ≡ bytes_of self.now.settings file) }
     {
-        let leaf = self.tagged_file(file);
-        let told = file_reply_of(method, headers, leaf.tag.as_slice());
-        response_of(alloc, told, leaf)
+        match file {
+            File::SettingsJson => {
+                let text = Vec::from_slice(alloc, self.settings.text.as_slice())?;
+                Ok(Bytes::from_vec(text)?)
+            }
+            _ => Ok(Bytes::from_static(file.text().as_bytes())),
+        }
     }
 }
 

@@ -1,12 +1,16 @@
 //! The responses to requests for a file.
-ghost use Rattle.std.specs.Prelude.{◌≡◌, IfOk, OnOk, ◌++◌, [], map};
+ghost use Rattle.std.specs.Prelude.{◌≡◌, IfOk, OnOk, [], map};
 ghost use Rattle.http_header.specs.FieldValue.{plain_value};
-ghost use Rattle.server_page.specs.Response.{Says, field, fields_of, version_of};
+ghost use Rattle.server_page.specs.PageSettings.{bytes_of};
+ghost use Rattle.server_page.specs.Response.{Responds, Says, field, fields_of, version_of};
+ghost use Rattle.server_page.specs.Tag.{tag_of};
 ghost use Rattle.server_page.specs.declared.file.File.{File};
+ghost use Rattle.server_page.specs.declared.page_settings.PageSettings.{PageSettings};
 ghost use Rattle.server_page.specs.declared.file_reply.FileReply.TheVariants.{Whole, Unchanged, WrongMethod};
 
-use crate::file_reply::FileReply;
-use crate::tagged_file::TaggedFile;
+use crate::file::File;
+use crate::file_reply::{FileReply, file_reply_of};
+use crate::page::Page;
 use bytes::Bytes;
 use http::header::{
     ALLOW, CACHE_CONTROL, CONTENT_SECURITY_POLICY, CONTENT_TYPE, ETAG, REFERRER_POLICY,
@@ -16,12 +20,6 @@ use http::{HeaderMap, HeaderValue, Response, StatusCode};
 use http_body_util::Full;
 use server_responses::{HttpResult, json_response, set_field, with_field};
 use std::alloc::{AllocError, Global};
-
-/// What a browser may load for the page: what comes from the same origin, and pictures inside the
-/// page (`data:`).
-const POLICY: &str = "default-src 'none'; script-src 'self'; worker-src 'self'; style-src 'self'; \
-    img-src 'self' data:; connect-src 'self'; form-action 'none'; base-uri 'none'; \
-    frame-ancestors 'none'";
 
 /// Sets the header fields of a file's version: a cache has to validate it.
 fn put_version(alloc: Global, headers: &mut HeaderMap, tag: &[u8]) -> Result<(), AllocError>
@@ -36,11 +34,19 @@ fn put_version(alloc: Global, headers: &mut HeaderMap, tag: &[u8]) -> Result<(),
 }
 
 /// Sets a file's media type, and what a browser may do with it.
-fn put_type(headers: &mut HeaderMap, leaf: &TaggedFile) -> Result<(), AllocError>
-    requires { headers.old ≡ map field (version_of leaf.now.tag.items) }
-    ensures { OnOk result (headers.new ≡ map field (fields_of Whole leaf.now.file)) }
+fn put_type(
+    alloc: Global,
+    headers: &mut HeaderMap,
+    page: &Page,
+    file: File,
+) -> Result<(), AllocError>
+    requires { headers.old ≡ map field (version_of (tag_of (bytes_of page.now.settings file))) }
+    ensures { OnOk result (headers.new ≡ map field (fields_of page.now.settings Whole file)) }
 {
-    let media_type = HeaderValue::from_static(leaf.file.media_type());
+    let media_type = HeaderValue::from_static(file.media_type());
+    let Ok(policy) = HeaderValue::from_bytes(alloc, page.settings.policy.as_slice()) else {
+        return Err(AllocError);
+    };
     set_field(headers, CONTENT_TYPE, media_type)?;
     set_field(
         headers,
@@ -52,37 +58,32 @@ fn put_type(headers: &mut HeaderMap, leaf: &TaggedFile) -> Result<(), AllocError
         REFERRER_POLICY,
         HeaderValue::from_static("no-referrer"),
     )?;
-    set_field(
-        headers,
-        CONTENT_SECURITY_POLICY,
-        HeaderValue::from_static(POLICY),
-    )
+    set_field(headers, CONTENT_SECURITY_POLICY, policy)
 }
 
 /// The file (200).
-fn whole(alloc: Global, leaf: &TaggedFile) -> HttpResult
-    ensures { IfOk result (Says Whole leaf.now.file) }
+fn whole(alloc: Global, page: &Page, file: File) -> HttpResult
+    ensures { IfOk result (Says page.now.settings Whole file) }
 {
-    let text = Bytes::from_static(leaf.file.text().as_bytes());
-    let mut response = Response::new(alloc, Full::new(text));
-    put_version(alloc, response.headers_mut(), leaf.tag.as_slice())?;
-    put_type(response.headers_mut(), leaf)?;
+    let mut response = Response::new(alloc, Full::new(page.bytes(alloc, file)?));
+    put_version(alloc, response.headers_mut(), page.tag(file))?;
+    put_type(alloc, response.headers_mut(), page, file)?;
     Ok(response)
 }
 
 /// The client has the file as it is (304).
-fn not_modified(alloc: Global, leaf: &TaggedFile) -> HttpResult
-    ensures { IfOk result (Says Unchanged leaf.now.file) }
+fn not_modified(alloc: Global, page: &Page, file: File) -> HttpResult
+    ensures { IfOk result (Says page.now.settings Unchanged file) }
 {
     let mut response = Response::new(alloc, Full::new(Bytes::from_static(b"")));
     *response.status_mut() = StatusCode::NOT_MODIFIED;
-    put_version(alloc, response.headers_mut(), leaf.tag.as_slice())?;
+    put_version(alloc, response.headers_mut(), page.tag(file))?;
     Ok(response)
 }
 
 /// A file can only be read (405).
 fn wrong_method(alloc: Global) -> HttpResult
-    ensures { (file : File) → IfOk result (Says WrongMethod file) }
+    ensures { (settings : PageSettings) (file : File) → IfOk result (Says settings WrongMethod file) }
 {
     let body = Bytes::from_static(b"{\"error\":\"method\"}");
     let response = json_response(alloc, StatusCode::METHOD_NOT_ALLOWED, body)?;
@@ -90,16 +91,33 @@ fn wrong_method(alloc: Global) -> HttpResult
 }
 
 /// The response of this kind for a file.
-///
-/// # Errors
-///
-/// Out of memory.
-pub(crate) fn response_of(alloc: Global, told: FileReply, leaf: &TaggedFile) -> HttpResult
-    ensures { IfOk result (Says told leaf.now.file) }
+fn response_of(alloc: Global, told: FileReply, page: &Page, file: File) -> HttpResult
+    ensures { IfOk result (Says page.now.settings told file) }
 {
     match told {
-        FileReply::Whole => whole(alloc, leaf),
-        FileReply::Unchanged => not_modified(alloc, leaf),
+        FileReply::Whole => whole(alloc, page, file),
+        FileReply::Unchanged => not_modified(alloc, page, file),
         FileReply::WrongMethod => wrong_method(alloc),
+    }
+}
+
+impl Page {
+    /// The response to a request for a file with this method and these header fields. `HEAD` gets
+    /// the same as `GET`, and the server sends it without the body.
+    ///
+    /// # Errors
+    ///
+    /// Out of memory.
+    pub fn respond(
+        &self,
+        alloc: Global,
+        file: File,
+        method: &[u8],
+        headers: &HeaderMap,
+    ) -> HttpResult
+        ensures { IfOk result (Responds self.now.settings method.now headers.now file) }
+    {
+        let told = file_reply_of(method, headers, self.tag(file));
+        response_of(alloc, told, self, file)
     }
 }

@@ -42,7 +42,7 @@ fn status_at(
 #[test]
 fn the_page_is_read(rt: HostRuntime) {
     let alloc = rt.alloc();
-    let page = Page::new(alloc).expect(&rt, "memory");
+    let page = Page::new(alloc, b"{}").expect(&rt, "memory");
     let none = HeaderMap::new(alloc);
     assert!(rt; status_at(&page, alloc, b"GET", b"/", &none) == Some(200));
     assert!(rt; status_at(&page, alloc, b"HEAD", b"/page.css", &none) == Some(200));

@@ -5,10 +5,7 @@ ghost use Rattle.http_uri.specs.Uri.{uri_path};
 ghost use Rattle.server_app.specs.OperatorNames.{badges_view};
 ghost use Rattle.server_durable.specs.DurableResponse.{CityResponds};
 ghost use Rattle.server_admission.specs.declared.cost.Cost.TheVariants.{Free};
-ghost use Rattle.server_page.specs.File.{text_of};
-ghost use Rattle.server_page.specs.Response.{Says};
-ghost use Rattle.server_page.specs.Tag.{tag_of};
-ghost use Rattle.server_page.specs.FileReply.{told_of};
+ghost use Rattle.server_page.specs.Response.{Responds};
 ghost use Rattle.server_public.specs.CachedDocuments.{IsTold};
 ghost use Rattle.server_responses.specs.Methods.{text_of as methods_text};
 ghost use Rattle.mds_request.specs.declared.config.Actor.TheVariants.{Nobody};
@@ -51,7 +48,7 @@ pub type SiteReply<'a, N, L, S, R> = Either<ReadyReply, CityReply<'a, N, L, S, R
 impl<'a, K: HallName, N: LogName, L: Log, S: Space, R: Wait, E> Site<'a, K, N, L, S, R, E> {
     /// The response to a request for a file of the page.
     fn respond_with_file(&self, parts: &Parts, file: File) -> HttpResult
-        ensures { IfOk result (Says (told_of parts.now.method parts.now.headers (tag_of (text_of file))) file) }
+        ensures { IfOk result (Responds self.now.page.settings parts.now.method parts.now.headers file) }
     {
         let method = parts.method.as_str().as_bytes();
         self.page
@@ -162,7 +159,7 @@ where
         ensures poll { IfOk result (elim [ Left told ↦ IsSome told.0 | Right reply ↦ ⊤ ]) }
         ensures tells { elim head.now [
           | Asset parts file ↦ MatchResult result (elim [
-            | Left told ↦ IfSome told.0 (λ r. IfOk r (Says (told_of parts.method parts.headers (tag_of (text_of file))) file))
+            | Left told ↦ IfSome told.0 (λ r. IfOk r (Responds self.now.page.settings parts.method parts.headers file))
             | Right reply ↦ ⊥
           ]) (λ _. ⊥)
           | Public parts asked ↦ MatchResult result (elim [

@@ -1,5 +1,6 @@
 //! A site: all that answers the requests of a server.
 ghost use Rattle.std.specs.Prelude.{◌≡◌, is_some, IfOk};
+ghost use Rattle.server_page.specs.PageSettings.{IsMadeOf};
 ghost use Rattle.server_public.specs.Switch.{is_public};
 
 use journal_commit::{LogName, Space};
@@ -36,8 +37,8 @@ where
     R: Wait + AllocGlobal + Copy + Drop,
     E: Drop,
 {
-    /// The site of a city: with the page, and with the public documents where the text of the
-    /// configuration turns them on. These counters count the city's responses, and this evaluator
+    /// The site of a city: with the page as the text of the configuration makes it, and with the
+    /// public documents where that turns them on. These counters count the city's responses, and this evaluator
     /// judges its vehicles.
     ///
     /// # Errors
@@ -51,11 +52,12 @@ where
         counters: &'a Counters,
     ) -> Result<Site<'a, K, N, L, S, R, E>, AllocError>
         ensures city { IfOk result (λ site. site.state.city ≡ city) }
+        ensures page { IfOk result (λ site. IsMadeOf configuration.now site.page.settings) }
         ensures window { IfOk result (λ site. is_some site.window ≡ is_public configuration.now) }
     {
         let alloc = rt.alloc();
         let mut site = Site {
-            page: Page::new(alloc)?,
+            page: Page::new(alloc, configuration)?,
             window: None,
             state: DurableService {
                 rt: *rt,

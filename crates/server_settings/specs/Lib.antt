@@ -1,0 +1,4 @@
+pub mod Address
+pub mod Faults
+pub mod Policy
+pub mod Settings
