@@ -429,7 +429,7 @@ def lowered(program):
 # Of docs/FILES.md the members that each program reads, and those that ruffletuff alone does, with the texts of oversight and a zone's name;
 # of docs/OPERATIONS.md the options, with the socket of --control. For the former the manual page refers to that of mds_serve.
 MEMBERS = "author operators id limit token"
-OWN = "zone name oversight public none verdicts vehicles America/New_York"
+OWN = "zone name oversight page title view tiles attribution public none verdicts vehicles America/New_York"
 OPTIONS = (
     "--config --state --listen --control --control-host --drop --thin-at --archive --until --operator --from --to --every --out "
     "--token-file --token --dry-run --help --version unix:PATH"

@@ -63,6 +63,8 @@ FILE     the configuration, a JSON object on as many lines as one likes:
            oversight  how far the author sees how each operator stands:
                       \"none\", as where it is left out, \"verdicts\" or
                       \"vehicles\"
+           page       an object: title, view (lat, lng and zoom), tiles (an
+                      address with {z}, {x} and {y}) and attribution of the page
            public     true where everyone is told, at /mds/2.0, what is
                       published and meant for everyone; else left out
          An access token is 1 to 64 letters, digits, '-' and '_'. No two are
