@@ -290,7 +290,10 @@ function whyNone() {
     return "The configuration doesn’t show the city how its operators stand. With \"oversight\": \"verdicts\" in it their verdicts "
       + "are told here; with \"oversight\": \"vehicles\" their vehicles are on the map too.";
   }
-  if (isOver()) return "How operators stood then isn’t told here: the server tells how they stand now.";
+  if (isOver()) {
+    return "How operators stood then isn’t told here: the server tells how they stand now. What the city’s journal says of "
+      + "the past the command “ruffletuff report” writes, of all operators or of one.";
+  }
   if (state.moment !== null) return "How operators stand is told for now alone.";
   return state.standings ? "" : "Asking how operators stand…";
 }
