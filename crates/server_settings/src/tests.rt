@@ -14,7 +14,9 @@ fn addresses_are_told_from_other_texts(rt: HostRuntime) {
     assert!(rt; !is_address(b"https://a/{z}/{x}.png"));
     assert!(rt; !is_address(b"https://a/{z}/{z}/{x}/{y}.png"));
     assert!(rt; !is_address(b"https://a/{z}/{x}/{y}.png; script-src *"));
-    assert!(rt; origin_of(b"https://a.example:8443/{z}/{x}/{y}.png") == b"https://a.example:8443");
+    assert!(rt;
+        origin_of(b"https://a.example:8443/{z}/{x}/{y}.png") == b"https://a.example:8443".as_slice()
+    );
 }
 
 #[test]
@@ -27,7 +29,7 @@ fn a_page_is_read(rt: HostRuntime) {
         .expect(&rt, "a page");
     let wanted =
         br#"{"city":"Rules","view":{"lat":45.52,"lng":-122,"zoom":12},"tiles":"https://t.example/{z}/{x}/{y}"}"#;
-    assert!(rt; told.as_slice() == wanted);
+    assert!(rt; told.as_slice() == wanted.as_slice());
     assert!(rt;
         settings_text(alloc, b"{\"page\":null}")
             .expect(&rt, "memory")
