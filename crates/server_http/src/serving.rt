@@ -1,5 +1,5 @@
 //! Connections as tasks.
-ghost use Rattle.std.specs.Prelude.{◌≡◌, IfOk, IfSome, ⊤};
+ghost use Rattle.std.specs.Prelude.{IfOk, IfSome, ⊤};
 ghost use Rattle.futures.specs.declared.future.either.Either.TheVariants.{Left, Right};
 
 use crate::conn_handle::ConnHandle;
@@ -103,7 +103,8 @@ impl<F: Future> BoxedFuture<F> {
     ///
     /// Out of memory.
     fn new(alloc: Global, future: F) -> Result<BoxedFuture<F>, AllocError>
-        ensures { IfOk result (λ boxed. boxed.future.value ≡ future) }
+        requires { F.can_poll future }
+        ensures { IfOk result (λ boxed. F.can_poll boxed.future.value) }
     {
         Ok(BoxedFuture {
             future: Box::new(alloc, future)?,
