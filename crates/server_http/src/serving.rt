@@ -1,5 +1,5 @@
 //! Connections as tasks.
-ghost use Rattle.std.specs.Prelude.{IfOk, IfSome, ⊤};
+ghost use Rattle.std.specs.Prelude.{IfSome, ⊤};
 ghost use Rattle.futures.specs.declared.future.either.Either.TheVariants.{Left, Right};
 
 use crate::conn_handle::ConnHandle;
@@ -90,38 +90,6 @@ fn conn_parts<I: Drop, P: ServerConn>(
     Ok((TimedIo::new(io, conn.clone_handle()?)?, service, last))
 }
 
-/// A future on the heap, so that whoever polls it moves a pointer, and not the whole future.
-#[derive(Drop)]
-struct BoxedFuture<F> {
-    future: Box<F>,
-}
-
-impl<F: Future> BoxedFuture<F> {
-    /// The future on the heap.
-    ///
-    /// # Errors
-    ///
-    /// Out of memory.
-    fn new(alloc: Global, future: F) -> Result<BoxedFuture<F>, AllocError>
-        requires { F.can_poll future }
-        ensures { IfOk result (λ boxed. F.can_poll boxed.future.value) }
-    {
-        Ok(BoxedFuture {
-            future: Box::new(alloc, future)?,
-        })
-    }
-}
-
-impl<F: Future> Future for BoxedFuture<F> {
-    type Output = F::Output;
-
-    ghost can_poll = { λ boxed. F.can_poll boxed.future.value };
-
-    fn poll(&mut self, cx: &mut Context<'_>) -> Poll<F::Output> {
-        self.future.poll(cx)
-    }
-}
-
 /// A connection's future, which gives its slot back at the end.
 #[derive(Drop)]
 struct ConnTask<F, P> {
@@ -157,11 +125,6 @@ trait ConnFactory<I>: Drop {
         ensures { IfSome result Self.Task.can_poll };
 }
 
-/// A connection over HTTP, on the heap.
-type HttpConnection<I, P, T> = BoxedFuture<
-    Connection<TimedIo<I, P>, HttpService<P>, Full<Bytes>, T>,
->;
-
 /// What each connection of a server is made with: the HTTP settings, and the acceptor's handle.
 #[derive(Drop)]
 struct HttpConnFactory<P, T> {
@@ -175,7 +138,7 @@ where
     P: ServerConn,
     T: Timer,
 {
-    type Task = ConnTask<HttpConnection<I, P, T>, P>;
+    type Task = ConnTask<Connection<TimedIo<I, P>, HttpService<P>, Full<Bytes>, T>, P>;
 
     ghost can_seat = { λ _. P.may_answer };
 
@@ -186,13 +149,8 @@ where
             last,
             conn,
         } = new_conn(io, &self.acceptor)?;
-        let future = self.http.serve_connection(io, service);
-        let Ok(future) = BoxedFuture::new(conn.alloc(), future) else {
-            conn.release();
-            return None;
-        };
         Some(ConnTask {
-            future,
+            future: self.http.serve_connection(io, service),
             ending: GracePeriod::new(last),
             conn,
         })
