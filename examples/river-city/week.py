@@ -6,8 +6,8 @@
 PROGRAM is a built ruffletuff. DIR gets the city's folder `city` and the report, with report.html, in the place of earlier ones. The week
 is the one from Monday, 2 March 2026 on, with the night in which clocks are set forward. Places, policies and fleets are those of
 publish.py; the festival is in this week. Vehicles go downtown by day and back at night, and many to the waterfront at the weekend; those
-that are broken, or have stood too long by then, stay. Prints who breaks which rule at the week's end, and since when, and last the
-command for a report on the first operator alone.
+that are broken, or have stood too long by then, stay. Prints who breaks which rule at the week's end, since when, and how often each
+rule was broken in it; last the command for a report on the first operator alone.
 """
 
 import argparse
@@ -114,28 +114,50 @@ def journal(configuration):
     return b"".join(parts), len(parts)
 
 
+class Rule:
+    """What a report says of a rule: its last row, since which one it is violated, and in how many rows, of those in which it is open."""
+
+    def __init__(self):
+        self.last, self.since, self.violated, self.open = None, None, 0, 0
+
+    def take(self, row):
+        """Takes the next row. A rule that isn't open at a moment leaves open since when it is violated."""
+        self.last = row
+        self.open += row["status"] in ("ok", "violated")
+        self.violated += row["status"] == "violated"
+        if row["status"] == "ok":
+            self.since = None
+        elif row["status"] == "violated":
+            self.since = self.since or row
+
+
 def standing(folder):
-    """Of each rule of each operator the last row of a report, and the first violated one behind all in which it was kept, if any."""
-    found = {}
+    """The rules of each operator, and the first moment of the report."""
+    found, first = {}, None
     with open(os.path.join(folder, "verdicts.csv"), encoding="utf-8", newline="") as file:
         for row in csv.DictReader(file):
-            key = row["operator_id"], row["policy_id"], row["rule_number"]
-            since = None if row["status"] == "ok" else found.get(key, (None, None))[1]
-            found[key] = row, since or (row if row["status"] == "violated" else None)
-    return list(found.values())
+            first = first or row["moment"]
+            found.setdefault((row["operator_id"], row["policy_id"], row["rule_number"]), Rule()).take(row)
+    return list(found.values()), first
 
 
 def tell(folder, command, operator):
-    """Prints who breaks which rule at the last moment of a report, and the command for a report on an operator alone."""
-    rules = standing(folder)
-    last = max((row for row, _ in rules), key=lambda row: row["moment"])
+    """Prints who breaks which rule at the last moment of a report, who broke which in it, and the command for an operator alone."""
+    rules, first = standing(folder)
+    last = max((it.last for it in rules), key=lambda row: row["moment"])
     print(f"at the report's last moment, {last['local']}:")
-    for row, since in rules:
-        if row["moment"] == last["moment"] and row["status"] == "violated":
-            print(f"  {row['operator_name']} breaks \"{row['rule_name']}\": {row['measure']} vehicles, since {since['local']}")
+    for it in rules:
+        if it.last["moment"] == last["moment"] and it.last["status"] == "violated":
+            before = " or before" if it.since["moment"] == first else ""
+            told = f"{it.last['operator_name']} breaks \"{it.last['rule_name']}\": {it.last['measure']} vehicles"
+            print(f"  {told}, whenever it was open since {it.since['local']}{before}")
+    print("in the report, violated in so many samples of those in which the rule was open:")
+    for it in rules:
+        if it.violated:
+            print(f"  {it.last['operator_name']}, \"{it.last['rule_name']}\": {it.violated} of {it.open}")
     print(f"with each day: {os.path.join(folder, 'report.html')}")
     alone = os.path.join(folder, operator["token"])
-    print(f"{operator['name']} alone, as a city reports one operator from its own folder (docs/REPORT.md):")
+    print(f"{operator['name']} alone, into an empty folder, as a city reports one operator from its own (docs/REPORT.md):")
     print(f"  mkdir -p {shlex.quote(alone)}")
     print(f"  {shlex.join([*command, '--operator', operator['id'], '--out', alone])}")
 

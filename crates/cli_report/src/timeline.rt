@@ -47,11 +47,16 @@ fn shape_of(sample: &DaySample) -> &'static str {
     }
 }
 
-/// The minutes from a sample to the end of what another one stands for; at least one.
-fn minutes_of(span: &ReportSpan, first: &DaySample, last: &DaySample) -> u64 {
-    let begin = first.at.get().unsigned_abs();
-    let end = last.at.get().unsigned_abs().saturating_add(span.every);
-    (end.saturating_sub(begin) / MINUTE).max(1)
+/// The minute of a sample's local day, by the clock.
+fn minute_of(zone: &Zone, sample: &DaySample) -> u64 {
+    clock_at(zone, sample.at) % DAY_SECONDS / MINUTE_SECONDS
+}
+
+/// The minutes by the clock from a sample to the end of what another one of its day stands for; at least one. The time that
+/// clocks are set forward over counts, and one that they show twice counts once.
+fn minutes_of(zone: &Zone, span: &ReportSpan, first: &DaySample, last: &DaySample) -> u64 {
+    let end = minute_of(zone, last).saturating_add(span.every / MINUTE);
+    end.saturating_sub(minute_of(zone, first)).max(1)
 }
 
 /// The mark of samples that are drawn alike.
@@ -65,8 +70,8 @@ fn mark_text(
 {
     let first = first_of(alike);
     let shape = shape_of(first);
-    let begin = clock_at(zone, first.at) % DAY_SECONDS / MINUTE_SECONDS;
-    let minutes = minutes_of(span, first, last_of(alike));
+    let begin = minute_of(zone, first);
+    let minutes = minutes_of(zone, span, first, last_of(alike));
     format!(in alloc; "<rect {shape} x=\"{begin}\" width=\"{minutes}\"/>")
 }
 
