@@ -21,6 +21,7 @@ import itertools
 import json
 import os
 import random
+import re
 import resource
 import shutil
 import signal
@@ -442,6 +443,38 @@ def is_the_same_again(made):
         yield f"it changes the folder, which has {os.listdir(made.city.folder)}"
 
 
+DAY_LINE = re.compile(r"<tr><th>(\d{4}-\d\d-\d\d)</th><td><svg[^>]*>(.*?)</svg></td>", re.S)
+MARK = re.compile(r'<rect class="(\w+)"[^>]* x="(\d+)" width="(\d+)"/>')
+DRAWN = {"violated": "violated", "ok": "kept"}
+
+
+def minute_of(local):
+    """The minute that the clock shows in a local text."""
+    return 60 * int(local[11:13]) + int(local[14:16])
+
+
+def marks_of(rows):
+    """The marks of a rule's day, by its rows: of which class, where each begins, and how long it is, by the clock."""
+    for drawn, alike in itertools.groupby(rows, lambda row: DRAWN.get(row[9], "closed")):
+        first, *_, last = [*(both := list(alike)), both[-1]]
+        begin = minute_of(first[1])
+        yield drawn, begin, max(1, minute_of(last[1]) + EVERY - begin)
+
+
+def marks_follow_the_clock(made):
+    """Each mark of a day in report.html begins and ends where the clock says, also behind a change of the clocks."""
+    days = collections.defaultdict(list)
+    for row in rows_of(made.whole["verdicts.csv"], COLUMNS):
+        days[row[2], row[4], row[6], row[1][:10]].append(row)
+    wanted = collections.Counter((day, tuple(marks_of(rows))) for (*_, day), rows in days.items())
+    lines = DAY_LINE.findall(made.whole["report.html"].decode())
+    found = collections.Counter((day, tuple((it, int(x), int(width)) for it, x, width in MARK.findall(text))) for day, text in lines)
+    for line_ in found - wanted:
+        yield f"a day is drawn that isn't in verdicts.csv: {line_}"
+    for line_ in wanted - found:
+        yield f"a day isn't drawn: {line_}"
+
+
 # --- Names ---------------------------------------------------------------------------------------------------------
 
 
@@ -701,7 +734,14 @@ def operators_stand_in_order(program, replay):
         yield from is_refused(city, 6, said)
 
 
-OF_A_CITY = (says_what_was_answered, times_may_be_local, of_one_operator, of_thinned_journals, is_the_same_again)
+OF_A_CITY = (
+    says_what_was_answered,
+    times_may_be_local,
+    of_one_operator,
+    of_thinned_journals,
+    is_the_same_again,
+    marks_follow_the_clock,
+)
 FURTHER = (
     hostile_names,
     operators_stand_in_order,
