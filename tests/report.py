@@ -7,9 +7,10 @@ Journals of cities are made by chance over both nights on which New York's clock
 supersede others, are withdrawn, begin and end, two operators that report, repeat and remove, and a clock that goes back. Each sample of
 verdicts.csv is worked out here another way: into the script that `ruffletuff audit` prints a question for compliance is put at each
 moment, mds_replay answers, and the answer is read by Python. summary.csv is worked out a second time from verdicts.csv, and local times
-from the two nights. A thinned journal with the one before it says the same as the whole one. Names that a spreadsheet or a browser would
-take for more than names, operators that are many, journals that are refused, and reports that aren't written whole are tried too. Prints
-what differs, and last 'N passed, M failed'; ends with 1 where one failed.
+from the two nights. The marks of report.html are worked out by the clock from verdicts.csv. A thinned journal with the one before it says
+the same as the whole one. Names that a spreadsheet or a browser would take for more than names, operators that are many, journals that are
+refused, and reports that aren't written whole are tried too. Prints what differs, and last 'N passed, M failed'; ends with 1 where one
+failed.
 """
 
 import argparse
