@@ -233,8 +233,8 @@ fn a_night_on_the_page(rt: HostRuntime) -> Result<(), AllocError> {
     );
     assert!(rt; has_part(&out, "<h2>&lt;script&gt; <small>"));
     assert!(rt; !has_part(&out, "<script"));
-    // From 01:00 on, two samples that stand for an hour each.
-    assert!(rt; has_part(&out, "height=\"12\" x=\"60\" width=\"120\"/>"));
+    // Two samples at 01:00, as that hour is shown twice: by the clock from 01:00 to 02:00.
+    assert!(rt; has_part(&out, "height=\"12\" x=\"60\" width=\"60\"/>"));
     assert!(rt; has_part(&out, "Violated in 4 of 6 samples."));
     assert!(rt; has_part(&out, "</svg></td><td>3 of 5</td>"));
     Ok(())
