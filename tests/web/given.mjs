@@ -23,7 +23,7 @@ function tileServer() {
 
 const others = (page, city) => page.asked.map((it) => it.url).filter((it) => it.startsWith("http") && !it.startsWith(`${city.url}/`));
 
-/** The page with all of it. At zoom 2 the world is four tiles wide; 45° west and 45° north lie in column 1 and row 1. */
+/** The page with all of it. At zoom 2 the world is four tiles wide; 45° west and 45° north lie in the tile of x 1 and y 1. */
 async function shown(page, city, tiles, { is, ok }) {
   await page.until(() => import("/state.js").then(({ state }) => state.me && state.readAt));
   is("the title is the heading", await page.text("#city"), TITLE);
