@@ -8,6 +8,7 @@ mod configuration;
 mod exit_cause;
 mod integrity;
 mod messages;
+mod operator_words;
 mod report_fault;
 mod script;
 

@@ -1,49 +1,87 @@
 //! Reports how operators stood at moments of the past, from journals of a city.
 
-ghost use Rattle.std.specs.Prelude.{◌≡◌, ◌<◌, ◌^◌, All, bytes_eq, IfOk, length, map};
+ghost use Rattle.std.specs.Prelude.{◌≡◌, ◌<◌, ◌^◌, All, bytes_eq, IfOk, length, map, string_bytes};
 ghost use Rattle.mds_request.specs.Configuration.{configuration, operator};
+ghost use Rattle.cli_report_command.specs.Heads.{last_of, noun};
 ghost use Rattle.cli_report_command.specs.Reports.{is_reported, reported_places};
 
+use crate::report_city::{ReportCity, city_of};
 use crate::report_files::{ReportFiles, check_folder, clear_parts};
 use crate::report_journals::{journals_in, read_journals};
 use crate::report_operators::{ReportSource, append_operators};
-use cli_args::ReportOptions;
+use cli_args::{COMMIT, ReportOptions, VERSION, version_line};
 use cli_calendar::{moment_in, moments_between};
 use cli_journal::{
-    ExitCause, ReportFault, configuration_in, configuration_text, operator_names_in, span_of,
+    ConfigFile, ExitCause, ReportFault, configuration_in, operator_names_in, span_of,
 };
-use cli_report::ReportSpan;
+use cli_report::{ReportHead, ReportSpan};
 use mds_request::{Config, Operator};
-use mds_text::Id;
+use mds_text::{Id, Moment};
+use server_admission::{MachineClock, Moments};
 use std::alloc::{AllocError, AllocGlobal, Global};
 use std::fs::{File, Files};
 use std::io::{Eprint, Print};
 use std::thread::Threads;
+use std::time::Clock;
 
 /// The milliseconds of a minute.
 const MINUTE: u64 = 60_000;
+
+/// The time that a report is about.
+#[derive(Clone, Copy)]
+struct ReportTime {
+    /// The first moment.
+    from: Moment,
+    /// What all moments are before.
+    to: Moment,
+    /// The milliseconds between two moments.
+    every: u64,
+}
 
 /// The time that a report is about.
 ///
 /// # Errors
 ///
 /// `Report` with `NoFirst`, `NoLast` or `NoTime`; `NoMemory`.
-fn read_span(
+fn read_time(
     alloc: Global,
     config: &Config,
     asked: &ReportOptions<'_>,
-) -> Result<ReportSpan, ExitCause>
-    ensures apart { IfOk result (λ span. 0 < span.every) }
-    ensures short { IfOk result (λ span. span.every < 2 ^ 62) }
+) -> Result<ReportTime, ExitCause>
+    ensures apart { IfOk result (λ time. 0 < time.every) }
+    ensures short { IfOk result (λ time. time.every < 2 ^ 62) }
 {
     let from = moment_in(alloc, config.zone(), asked.from)?;
     let to = moment_in(alloc, config.zone(), asked.to)?;
     let (from, to) = span_of(from, to)?;
-    Ok(ReportSpan {
+    Ok(ReportTime {
         from,
         to,
         every: asked.every * MINUTE,
     })
+}
+
+/// The last of some moments; another one where there is none.
+fn last_of(moments: &[Moment], other: Moment) -> Moment
+    ensures { result ≡ last_of moments.now other }
+{
+    match moments.last() {
+        Some(last) => *last,
+        None => other,
+    }
+}
+
+/// The span of a report with these moments.
+fn span_over(time: &ReportTime, moments: &[Moment]) -> ReportSpan
+    ensures first { result.first ≡ time.now.from }
+    ensures last { result.last ≡ last_of moments.now time.now.from }
+    ensures every { result.every ≡ time.now.every }
+{
+    ReportSpan {
+        first: time.from,
+        last: last_of(moments, time.from),
+        every: time.every,
+    }
 }
 
 /// Whether two identifiers are the same.
@@ -121,7 +159,14 @@ fn write_report<R: Files<File = File> + Eprint + Threads + Sync + AllocGlobal>(
     written
 }
 
-/// Prints how much a report tells.
+/// The noun for so many.
+fn noun<'x>(count: usize, one: &'x str, many: &'x str) -> &'x str
+    ensures { result.now ≡ noun count one.now many.now }
+{
+    if count == 1 { one } else { many }
+}
+
+/// Prints how much a report tells: of how many operators, at how many moments, in how many rows of its first table.
 ///
 /// # Errors
 ///
@@ -130,11 +175,35 @@ fn print_counts<R: Print>(
     rt: &R,
     operators: usize,
     moments: usize,
-    samples: usize,
+    rows: usize,
 ) -> Result<(), ExitCause> {
-    match println!(rt; "{operators} operators, {moments} moments, {samples} samples") {
+    let of = noun(operators, "operator", "operators");
+    let at = noun(moments, "moment", "moments");
+    let told = noun(rows, "row", "rows");
+    match println!(rt; "{operators} {of}, {moments} {at}, {rows} {told} in verdicts.csv") {
         Ok(()) => Ok(()),
         Err(_) => Err(ExitCause::NotPrinted),
+    }
+}
+
+/// What the page says of a report that is made now, of a city, by this program.
+fn head_of<'a, R: Clock + Copy>(
+    rt: &R,
+    city: &'a ReportCity,
+    program: &'a str,
+    span: ReportSpan,
+) -> ReportHead<'a>
+    ensures city { result.city.now ≡ string_bytes city.now.title }
+    ensures zone { result.zone.now ≡ string_bytes city.now.zone }
+    ensures program { result.program.now ≡ program.now }
+    ensures span { result.span ≡ span }
+{
+    ReportHead {
+        city: city.title.as_bytes(),
+        zone: city.zone.as_bytes(),
+        made: MachineClock(*rt).now(),
+        program: program.as_bytes(),
+        span,
     }
 }
 
@@ -148,12 +217,13 @@ fn print_counts<R: Print>(
 /// written. `NotPrinted` where the report is.
 pub fn report<R>(rt: &R, asked: &ReportOptions<'_>) -> Result<(), ExitCause>
 where
-    R: AllocGlobal + Files<File = File> + Print + Eprint + Threads + Sync,
+    R: AllocGlobal + Files<File = File> + Print + Eprint + Threads + Clock + Sync + Copy,
 {
     let alloc = rt.alloc();
-    let text = configuration_text(rt, alloc, asked.config)?;
+    let file = ConfigFile::read(rt, asked.config)?;
+    let text = file.resolve(alloc)?;
     let config = configuration_in(alloc, &text)?;
-    let span = read_span(alloc, &config, asked)?;
+    let time = read_time(alloc, &config, asked)?;
     let ids = asked.operators(alloc)?;
     check_ids(config.operators(), &ids)?;
     check_folder(rt, asked.out)?;
@@ -161,15 +231,17 @@ where
     let journals = journals_in(alloc, &config, &bytes)?;
     let names = operator_names_in(alloc, &text)?;
     let places = reported_places(alloc, config.operators(), &ids)?;
-    let moments = moments_between(alloc, span.from, span.to, span.every)?;
+    let moments = moments_between(alloc, time.from, time.to, time.every)?;
+    let city = city_of(alloc, file.zone_name(), &text)?;
+    let program = version_line(alloc, VERSION, COMMIT)?;
     let source = ReportSource {
         config: &config,
         names: &names,
         places: &places,
         journals: &journals,
         moments: &moments,
-        span,
+        head: head_of(rt, &city, program.as_str(), span_over(&time, &moments)),
     };
-    let samples = write_report(rt, asked.out, &source)?;
-    print_counts(rt, places.len(), moments.len(), samples)
+    let rows = write_report(rt, asked.out, &source)?;
+    print_counts(rt, places.len(), moments.len(), rows)
 }

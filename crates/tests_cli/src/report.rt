@@ -1,8 +1,8 @@
 //! Tests of reports: the examples of RFC 4180, and a night on which the clocks of New York are set back, worked out by
 //! hand.
 use cli_report::{
-    ReportSpan, ReportedOperator, page_start, push_page_end, push_page_operator, push_summary,
-    push_verdicts, summary_header, verdicts_header,
+    ReportHead, ReportSpan, ReportedOperator, page_start, push_page_end, push_page_operator,
+    push_summary, push_verdicts, summary_header, verdicts_header,
 };
 use journal_samples::RuleSample;
 use mds_catalog::Catalogue;
@@ -27,7 +27,7 @@ const BEFORE_NAME: &str =
     "2026-11-01T05:00:00Z,2026-11-01T01:00:00-04:00,11111111-1111-4111-8111-111111111111,";
 /// What it has behind the name.
 const BEHIND_NAME: &str =
-    ",22222222-2222-4222-8222-222222222222,,0,33333333-3333-4333-8333-333333333333,,violated,7,,\r\n";
+    ",22222222-2222-4222-8222-222222222222,,0,33333333-3333-4333-8333-333333333333,,violated,7,,,\r\n";
 
 /// A sample of the rule, so many hours after midnight.
 fn sample(hour: i64, status: Status, measure: u64) -> Option<RuleSample> {
@@ -71,16 +71,27 @@ fn samples(alloc: Global) -> Result<Vec<RuleSample>, AllocError> {
 }
 
 /// Each hour from one moment to another.
-fn hours(from: Moment, to: Moment) -> ReportSpan {
+fn hours(first: Moment, last: Moment) -> ReportSpan {
     ReportSpan {
-        from,
-        to,
+        first,
+        last,
         every: 3_600_000,
     }
 }
 
+/// The head of a report of a city without a title.
+fn head(span: ReportSpan) -> ReportHead<'static> {
+    ReportHead {
+        city: b"",
+        zone: b"America/New_York",
+        made: None,
+        program: b"ruffletuff",
+        span,
+    }
+}
+
 /// Whether a text has this part.
-fn has_part(text: &[u8], part: &str) -> bool {
+pub(crate) fn has_part(text: &[u8], part: &str) -> bool {
     for start in 0..text.len() {
         if text[start..].starts_with(part.as_bytes()) {
             return true;
@@ -160,11 +171,11 @@ fn a_night_of_verdicts(rt: HostRuntime) -> Result<(), AllocError> {
         catalogue: &catalogue,
     };
     let mut out = verdicts_header(alloc)?;
-    assert!(rt; has_part(&out, ",status,measure,minimum,maximum\r\n"));
+    assert!(rt; has_part(&out, ",status,measure,minimum,maximum,units\r\n"));
     out.clear();
     push_verdicts(alloc, &mut out, &zone, &operator)?;
     let row = format!(in alloc;
-        "2026-11-01T05:00:00Z,2026-11-01T01:00:00-04:00,{OPERATOR},\"'=cmd, \"\"x\"\"\",{RULE}violated,7,,\r\n"
+        "2026-11-01T05:00:00Z,2026-11-01T01:00:00-04:00,{OPERATOR},\"'=cmd, \"\"x\"\"\",{RULE}violated,7,,,\r\n"
     )?;
     assert!(rt; out.as_slice() == row.as_bytes());
     Ok(())
@@ -194,10 +205,10 @@ fn a_night_in_short(rt: HostRuntime) -> Result<(), AllocError> {
     let again = "2026-11-01T01:00:00-05:00";
     let three = "2026-11-01T03:00:00-05:00";
     let first = format!(in alloc;
-        "{OPERATOR},Scoot,{RULE}2026-10-31,1,1,1,{evening},{evening},{evening},{evening},5\r\n"
+        "{OPERATOR},Scoot,{RULE}2026-10-31,1,1,1,{evening},{evening},{evening},{evening},5,5\r\n"
     )?;
     let second = format!(in alloc;
-        "{OPERATOR},Scoot,{RULE}2026-11-01,5,3,2,{one},{again},{one},{three},9\r\n"
+        "{OPERATOR},Scoot,{RULE}2026-11-01,5,3,2,{one},{again},{one},{three},9,2\r\n"
     )?;
     let mut rows = first;
     rows.push_str(second.as_str())?;
@@ -214,23 +225,32 @@ fn a_night_on_the_page(rt: HostRuntime) -> Result<(), AllocError> {
     };
     let catalogue = Catalogue::with_room(alloc)?;
     let samples = samples(alloc)?;
-    let from = Moment::new(1_793_502_000_000).expect(&rt, "a moment");
-    let to = Moment::new(1_793_520_000_000).expect(&rt, "a moment");
+    let first = Moment::new(1_793_502_000_000).expect(&rt, "a moment");
+    let last = Moment::new(1_793_520_000_000).expect(&rt, "a moment");
+    let span = hours(first, last);
     let operator = ReportedOperator {
         id: Id::read(OPERATOR).expect(&rt, "an identifier"),
         name: b"<script>",
         samples: &samples,
         catalogue: &catalogue,
     };
-    let mut out = page_start(alloc, &zone, hours(from, to))?;
-    push_page_operator(alloc, &mut out, &zone, hours(from, to), &operator)?;
+    let mut out = page_start(alloc, &zone, &head(span))?;
+    push_page_operator(alloc, &mut out, &zone, span, &operator)?;
     push_page_end(&mut out)?;
     assert!(rt;
         has_part(
             &out,
-            "2026-10-31T23:00:00-04:00 to before 2026-11-01T03:00:00-05:00, every 60 minutes."
+            "<th>First sample</th><td>2026-10-31T23:00:00-04:00</td>"
         )
     );
+    assert!(rt;
+        has_part(
+            &out,
+            "<th>Last sample</th><td>2026-11-01T03:00:00-05:00</td>"
+        )
+    );
+    assert!(rt; has_part(&out, "<th>Sampled every</th><td>60 minutes</td>"));
+    assert!(rt; !has_part(&out, "<th>City</th>"));
     assert!(rt; has_part(&out, "<h2>&lt;script&gt; <small>"));
     assert!(rt; !has_part(&out, "<script"));
     // Two samples at 01:00, as that hour is shown twice: by the clock from 01:00 to 02:00.

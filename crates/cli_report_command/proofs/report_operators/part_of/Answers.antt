@@ -28,9 +28,9 @@ returns c =
           ∙ ap (option_map (λ o. o.id)) (slice_get-map operator known place
           ∙ ap (option_map operator) (slice_get-get_or known place c.index-operators-place.result within));
       says =
-          subst (λ (zone : ZoneKind). IsReportOf zone (record { id = one.id; name = c.name.result.now }) policies (told_of source place) bytes)
+          subst (λ (zone : ZoneKind). IsReportOf zone c.args.source.now.head.span (record { id = one.id; name = c.name.result.now }) policies (told_of source place) bytes)
           c.zone.ensures
-          (subst (λ (samples : List RuleSample). IsReportOf c.zone.result.now (record { id = one.id; name = c.name.result.now }) policies samples bytes)
+          (subst (λ (samples : List RuleSample). IsReportOf c.zone.result.now c.args.source.now.head.span (record { id = one.id; name = c.name.result.now }) policies samples bytes)
           (c.deref.ensures.value ∙ c.in-Ok.ensures)
           c.in_ok-bytes.ensures);
       counted = grind (arith, c.len.ensures, ap length c.in-Ok.ensures);
