@@ -1,6 +1,5 @@
 //! Swaps the journal's file of a served city for compacted ones.
 
-use cli_journal::ExitCause;
 use journal_compaction::AnswersAgree;
 use journal_file::{FileStorage, Journal, LogEnd};
 use journal_folder::{FolderFault, Folders};
@@ -36,18 +35,18 @@ impl<R: Folders + Drop> JournalSwapper<R> {
     ///
     /// # Errors
     ///
-    /// `Folder` where the folder can't be opened, `NoMemory`.
+    /// `Unusable` where the folder can't be opened, `NoMemory`.
     pub fn new(
         rt: R,
         alloc: Global,
         folder: &str,
         meeting: Arc<JournalHandoff>,
         counters: Arc<Counters>,
-    ) -> Result<JournalSwapper<R>, ExitCause> {
+    ) -> Result<JournalSwapper<R>, FolderFault> {
         let journal = format!(in alloc; "{folder}/journal")?;
         let thinned = format!(in alloc; "{folder}/journal.thinned")?;
         let Ok(folder) = rt.open(folder) else {
-            return Err(ExitCause::Folder(FolderFault::Unusable));
+            return Err(FolderFault::Unusable);
         };
         Ok(JournalSwapper {
             rt,

@@ -2,11 +2,14 @@
 
 use crate::file_swap::{FileJournal, JournalHandoff};
 use crate::thread_job::ThreadJob;
-use cli_journal::moment;
-use journal_compaction::{AnswersAgree, CompactFault, JournalPrefix, check_empty, compact_prefix};
+use journal_compaction::{
+    AnswersAgree, CompactFault, JournalPrefix, check_empty, compact_prefix, record_compacted,
+};
 use journal_file::{FileStorage, Journal, LogEnd};
-use journal_folder::{FolderFault, Folders, archive_in, lock_file};
+use journal_folder::{CompactedJournal, FolderFault, Folders, archive_compacted, lock_file};
 use journal_swap::{CatchUpFault, CompactedLog, is_small_lag};
+use mds_text::Moment;
+use server_admission::{MachineClock, Moments};
 use std::alloc::{AllocError, AllocGlobal, Global};
 use std::fs::File;
 use std::io::{Eprint, Read};
@@ -33,7 +36,8 @@ impl From<CompactFault> for NotOffered {
 
 /// Compacts the journal of a city's folder while the city is served, in a thread of its own: it waits until the journal
 /// is due, writes a shorter one next to it, as `journal_compaction` does, archives the journal where that is asked for,
-/// brings the shorter one up to what is appended meanwhile, and hands it to the flusher.
+/// brings the shorter one up to what is appended meanwhile, records the compaction in the folder, and hands the shorter
+/// journal to the flusher.
 #[derive(Drop)]
 pub struct Compactor<'a, R> {
     /// The runtime, by which it waits for locks.
@@ -76,6 +80,15 @@ impl<R: Folders + Wait + Clock + AllocGlobal + Eprint + Copy> Compactor<'_, R> {
         format!(in self.rt.alloc(); "{}/{name}", self.folder)
     }
 
+    /// The moment at which servers from both journals are asked: that of the machine's clock, or else the Unix epoch,
+    /// since nothing that is asked depends on it.
+    fn moment(&self) -> Moment {
+        match MachineClock(self.rt).now() {
+            Some(now) => now,
+            None => Moment::new(0).unwrap(),
+        }
+    }
+
     /// Opens the journal's file.
     fn journal(&self) -> Result<File, CompactFault> {
         let path = self.path("journal")?;
@@ -105,21 +118,17 @@ impl<R: Folders + Wait + Clock + AllocGlobal + Eprint + Copy> Compactor<'_, R> {
         }
     }
 
-    /// Archives a journal's bytes, where an archive is asked for.
-    fn archive(&self, bytes: &[u8]) -> Result<(), CompactFault> {
-        match self.archive {
-            Some(folder) => Ok(archive_in(&self.rt, self.rt.alloc(), folder, bytes)?),
-            None => Ok(()),
-        }
-    }
-
-    /// A compacted journal of what a journal's file has up to a log end. That is archived once the two are compared:
-    /// what is appended behind it comes to stand in the compacted journal.
+    /// A compacted journal of what a journal's file has up to a log end, and what is to be recorded of its compaction.
+    /// The journal is archived, where that is asked for, once the two are compared: what is appended behind it comes to
+    /// stand in the compacted journal.
     fn shorten(
         &self,
         file: &mut File,
         seal: LogEnd,
-    ) -> Result<CompactedLog<FileJournal, AnswersAgree>, CompactFault> {
+    ) -> Result<
+        (CompactedLog<FileJournal, AnswersAgree>, Option<CompactedJournal>),
+        CompactFault,
+    > {
         let alloc = self.rt.alloc();
         let bytes = next_bytes(alloc, file, seal.position)?;
         let log = match Journal::open(alloc, FileStorage::new(self.create_compacted()?)) {
@@ -130,11 +139,11 @@ impl<R: Folders + Wait + Clock + AllocGlobal + Eprint + Copy> Compactor<'_, R> {
             config: self.config,
             bytes: &bytes,
             seal,
-            at: moment(&self.rt),
+            at: self.moment(),
         };
         let shorter = compact_prefix(&self.rt, alloc, &front, log)?;
-        self.archive(&bytes)?;
-        Ok(shorter)
+        let compacted = archive_compacted(&self.rt, alloc, self.archive, &bytes)?;
+        Ok((shorter, compacted))
     }
 
     /// Brings a compacted journal up to the log end at which the journal is synced next, and gives how many bytes it
@@ -158,11 +167,11 @@ impl<R: Folders + Wait + Clock + AllocGlobal + Eprint + Copy> Compactor<'_, R> {
     }
 
     /// Makes a compacted journal of what the journal has up to a log end, brings it up to date until it lacks little,
-    /// or often enough, and offers it. Gives the journal's file, which is to stay open until the compacted one has its
-    /// place: whoever closes it last frees its room on the disk.
+    /// or often enough, records the compaction, and offers the compacted journal. Gives the journal's file, which is to
+    /// stay open until the compacted one has its place: whoever closes it last frees its room on the disk.
     fn offer(&self, seal: LogEnd) -> Result<File, NotOffered> {
         let mut file = self.journal()?;
-        let mut shorter = self.shorten(&mut file, seal)?;
+        let (mut shorter, compacted) = self.shorten(&mut file, seal)?;
         for _ in 0..MOST_ROUNDS {
             let (further, lacked) = self.bring_up(&mut file, shorter)?;
             shorter = further;
@@ -170,6 +179,7 @@ impl<R: Folders + Wait + Clock + AllocGlobal + Eprint + Copy> Compactor<'_, R> {
                 break;
             }
         }
+        record_compacted(&self.rt, self.rt.alloc(), self.folder, &compacted)?;
         self.meeting.offer(&self.rt, shorter);
         Ok(file)
     }

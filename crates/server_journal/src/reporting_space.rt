@@ -1,6 +1,6 @@
 //! Disk room, with a message on standard error once the disk is full.
 ghost use Rattle.std.specs.Prelude.{◌≡◌};
-ghost use Rattle.ruffletuff.specs.Full.{is_full, is_told};
+ghost use Rattle.server_journal.specs.Full.{is_full, is_told};
 
 use journal_commit::{NoRoom, Space};
 use std::io::Eprint;

@@ -21,14 +21,15 @@ pub record HasHead (configuration : Configuration) (dropped : List (List ℕ)) (
 
 -- The payloads are a head, for whose operators the configuration has room, and those of entries; the room and desks are
 -- started from these, but for those of the operators that are left out.
-pub record IsStartedFrom (configuration : Configuration) (dropped : List (List ℕ)) (texts : List (List ℕ)) (s : Server) : Type 0 where
+pub record IsStartedFrom (configuration : Configuration) (dropped texts : List (List ℕ)) (s : Server) : Type 0 where
   pub entries : List Entry
   pub head : HasHead configuration dropped texts (map entry_text entries)
   pub started : IsStartedAgain configuration (without dropped entries) s
 
 -- The log may be of such payloads.
 abbrev pub IsStartedFromLog : (List (List ℕ) → Type 0) → Configuration → List (List ℕ) → Server → Type 0
-IsStartedFromLog may_be configuration dropped s = (texts : List (List ℕ)) × may_be texts × IsStartedFrom configuration dropped texts s
+IsStartedFromLog may_be configuration dropped s =
+    (texts : List (List ℕ)) × may_be texts × IsStartedFrom configuration dropped texts s
 
 -- whether a client's request with this verb publishes: to publish is the author's only POST
 abbrev pub publishes : EntryClient → Verb → Bool

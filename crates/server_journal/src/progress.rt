@@ -1,6 +1,6 @@
 //! Reports the progress of replaying the journal.
 ghost use Rattle.std.specs.Prelude.{◌≡◌};
-ghost use Rattle.ruffletuff.specs.Progress.{is_told};
+ghost use Rattle.server_journal.specs.Progress.{is_told};
 
 use journal_recovery::Progress;
 use std::io::Eprint;
