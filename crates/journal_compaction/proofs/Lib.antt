@@ -7,4 +7,5 @@ pub mod Journals
 pub mod Known
 pub mod Loops
 pub mod Moves
+pub mod Past
 pub mod Rows

@@ -1,6 +1,7 @@
 //! Laws of compaction, and of restarts from compacted journals. Each function's contract is the law; the functions do
 //! nothing but call the laws that theirs follow from.
 ghost use Rattle.journal_compaction.specs.Laws.{RowsStay};
+ghost use Rattle.journal_compaction.specs.Past.{PastIsTold};
 ghost use Rattle.journal_compaction.specs.Restarts.{ThinnedDeskIsRecovered, DeskIsRecoveredFromJournal, RowsStayThroughout};
 ghost use Rattle.journal_compaction.specs.Restarts.{AuthorsEntriesStay, ThinnedLeadsBack, GoesOnFromThinned};
 
@@ -62,3 +63,9 @@ pub fn goes_on_from_thinned()
     thinned_journal_leads_back();
     restarts::is_one_server();
 }
+
+/// The journal that tells of a moment, by what is recorded of compactions, has up to the moment what compactions would have
+/// left of all entries up to it that were ever appended.
+pub fn past_is_told()
+    ensures { PastIsTold }
+{}
