@@ -4,18 +4,17 @@ ghost use Rattle.cli_journal.specs.Compaction.{may_leave_remains, is_unbegun};
 
 use crate::configuration::{configuration_in, configuration_text};
 use crate::exit_cause::ExitCause;
+use crate::host::ThinHost;
 use crate::messages::report_cut;
 use cli_args::ThinOptions;
+use cli_host::FileHost;
 use journal_compaction::{CompactFault, Counts, compact_folder};
 use journal_file::{FileStorage, HasLogEnd, Journal};
-use journal_folder::{CutFiles, Folder, FolderFault, Folders, check_archive, open_folder};
+use journal_folder::{CutFiles, Folder, FolderFault, check_archive, open_folder};
 use mds_text::Moment;
 use server_admission::{MachineClock, Moments};
-use std::alloc::AllocGlobal;
 use std::fs::{self, File, Files};
-use std::io::{Eprint, Print};
 use std::mem::drop;
-use std::sync::Wait;
 use std::time::Clock;
 
 /// Whether a fault may leave remains of a compacted journal next to the journal. Where another program has the folder,
@@ -27,14 +26,14 @@ fn may_leave_remains(fault: &CompactFault) -> bool
 }
 
 /// Removes what is left of a compacted journal next to the journal, if that can be done.
-pub fn clear<R: Files<File = File> + AllocGlobal>(rt: &R, folder: &str) {
+pub fn clear<R: FileHost>(rt: &R, folder: &str) {
     if let Ok(path) = format!(in rt.alloc(); "{folder}/journal.thinned") {
         let _ = fs::remove_file(rt, path.as_str());
     }
 }
 
 /// How many bytes a folder's journal has; `None` where that can't be found out.
-pub fn journal_length<R: Files<File = File> + AllocGlobal>(rt: &R, folder: &str) -> Option<u64> {
+pub fn journal_length<R: FileHost>(rt: &R, folder: &str) -> Option<u64> {
     let path = format!(in rt.alloc(); "{folder}/journal").ok()?;
     let metadata = fs::metadata(rt, path.as_str()).ok()?;
     Some(metadata.len())
@@ -45,7 +44,7 @@ pub fn journal_length<R: Files<File = File> + AllocGlobal>(rt: &R, folder: &str)
 /// # Errors
 ///
 /// `Folder` where that can't be found out.
-fn bytes_of<R: Files<File = File> + AllocGlobal>(rt: &R, folder: &str) -> Result<u64, ExitCause> {
+fn bytes_of<R: FileHost>(rt: &R, folder: &str) -> Result<u64, ExitCause> {
     match journal_length(rt, folder) {
         Some(length) => Ok(length),
         None => Err(ExitCause::Folder(FolderFault::Unusable)),
@@ -54,8 +53,8 @@ fn bytes_of<R: Files<File = File> + AllocGlobal>(rt: &R, folder: &str) -> Result
 
 /// The moment at which servers from both journals are asked: that of the machine's clock, or else the Unix epoch, since
 /// nothing that is asked depends on it.
-pub fn moment<R: Clock + Copy>(rt: &R) -> Moment {
-    match MachineClock(*rt).now() {
+pub fn moment<R: Clock>(rt: &R) -> Moment {
+    match MachineClock(rt).now() {
         Some(now) => now,
         None => Moment::new(0).unwrap(),
     }
@@ -90,10 +89,7 @@ fn is_unbegun<L: HasLogEnd>(log: &L) -> bool
 ///
 /// `Folder` where another program has the folder, the journal is damaged, or what is to be cut can't be kept;
 /// `NoMemory`.
-fn cut_and_report<R: Files<File = File> + Eprint + AllocGlobal>(
-    rt: &R,
-    folder: &str,
-) -> Result<bool, ExitCause> {
+fn cut_and_report<R: ThinHost>(rt: &R, folder: &str) -> Result<bool, ExitCause> {
     let Folder {
         lock: _lock,
         journal,
@@ -113,7 +109,7 @@ fn cut_and_report<R: Files<File = File> + Eprint + AllocGlobal>(
 /// # Errors
 ///
 /// As `ExitCause::from` says.
-fn compact_or_clear<R: Wait + Folders + Files<File = File> + Clock + AllocGlobal + Copy>(
+fn compact_or_clear<R: ThinHost>(
     rt: &R,
     asked: &ThinOptions<'_>,
     text: &[u8],
@@ -139,7 +135,7 @@ fn compact_or_clear<R: Wait + Folders + Files<File = File> + Clock + AllocGlobal
 /// # Errors
 ///
 /// As `compact_or_clear`.
-fn compact_records<R: Wait + Folders + Files<File = File> + Clock + AllocGlobal + Copy>(
+fn compact_records<R: ThinHost>(
     rt: &R,
     asked: &ThinOptions<'_>,
     text: &[u8],
@@ -166,10 +162,7 @@ fn compact_records<R: Wait + Folders + Files<File = File> + Clock + AllocGlobal 
 /// `Folder` where there is no journal, another program has the folder, or the journal is damaged;
 /// `Refused` where the configuration doesn't fit it; `NotThinned` where the disk has no room for the compacted one;
 /// `Differs`; `NoMemory`. The journal's records stay as they were. `NotPrinted` where it is compacted.
-pub fn compact<R>(rt: &R, asked: &ThinOptions<'_>) -> Result<(), ExitCause>
-where
-    R: Wait + Folders + Files<File = File> + Clock + Print + Eprint + AllocGlobal + Copy,
-{
+pub fn compact<R: ThinHost>(rt: &R, asked: &ThinOptions<'_>) -> Result<(), ExitCause> {
     let alloc = rt.alloc();
     let text = configuration_text(rt, alloc, asked.config)?;
     drop(configuration_in(alloc, &text)?);

@@ -6,11 +6,11 @@ ghost use Rattle.cli_journal.specs.Messages.{config_of, listener_of, control_of,
 use crate::exit_cause::ExitCause;
 use crate::report_fault::ReportFault;
 use cli_args::{CliCommand, usage_of};
+use cli_host::MessageHost;
 use journal_entry::Unfit;
 use journal_file::CutTail;
 use journal_folder::FolderFault;
 use journal_recovery::{Cause, Fault};
-use std::alloc::AllocGlobal;
 use std::io::Eprint;
 
 /// The file of the configuration.
@@ -125,7 +125,7 @@ fn place_in<'a>(asked: &CliCommand<'a>, ending: &ExitCause) -> Option<&'a str>
 }
 
 /// Reports what went wrong, and where.
-pub fn report_exit<R: Eprint + AllocGlobal>(rt: &R, asked: &CliCommand<'_>, ending: &ExitCause) {
+pub fn report_exit<R: MessageHost>(rt: &R, asked: &CliCommand<'_>, ending: &ExitCause) {
     let message = ending.message();
     let _ = match place_in(asked, ending) {
         Some(place) => eprintln!(rt; "{message}: {place}"),
@@ -152,7 +152,7 @@ pub fn report_cut<R: Eprint>(rt: &R, cut: Option<CutTail>) {
 }
 
 /// Reports the details of a fault, where there are any.
-fn explain<R: Eprint + AllocGlobal>(rt: &R, ending: &ExitCause) {
+fn explain<R: MessageHost>(rt: &R, ending: &ExitCause) {
     match ending {
         ExitCause::Misconfigured(detail) => {
             let _ = eprintln!(rt; "{detail}");
@@ -174,7 +174,7 @@ fn explain<R: Eprint + AllocGlobal>(rt: &R, ending: &ExitCause) {
 }
 
 /// Reports what is wrong with a folder's journal.
-fn explain_folder<R: Eprint + AllocGlobal>(rt: &R, fault: &FolderFault) {
+fn explain_folder<R: MessageHost>(rt: &R, fault: &FolderFault) {
     match fault {
         FolderFault::Damaged(damage) => {
             let _ = eprintln!(rt; "{damage}");
@@ -185,7 +185,7 @@ fn explain_folder<R: Eprint + AllocGlobal>(rt: &R, fault: &FolderFault) {
 }
 
 /// Reports the operator that no report can be about, or the file that its folder has already.
-fn explain_report<R: Eprint + AllocGlobal>(rt: &R, fault: &ReportFault) {
+fn explain_report<R: MessageHost>(rt: &R, fault: &ReportFault) {
     match fault {
         ReportFault::NoOperator(id) => {
             if let Ok(id) = id.print(rt.alloc()) {
@@ -201,7 +201,7 @@ fn explain_report<R: Eprint + AllocGlobal>(rt: &R, fault: &ReportFault) {
 }
 
 /// Reports the operator that a configuration lacks, or whose limit in it is too low.
-fn explain_unfit<R: Eprint + AllocGlobal>(rt: &R, unfit: &Unfit) {
+fn explain_unfit<R: MessageHost>(rt: &R, unfit: &Unfit) {
     let (id, flaw) = match unfit {
         Unfit::Missing(id) => (id, "has entries in it and isn't in the configuration"),
         Unfit::LowLimit(id) => (id, "has held more vehicles than its limit allows"),
