@@ -1,12 +1,12 @@
 //! Tests of the control port over loopback.
 use server_control::{
-    CallKind, Control, ControlAnswer, ControlHead, Counters, Figure, Fleet, Hosts, Port,
-    StopServer, answer_due, control_head_of, metrics, serve_control, stop,
+    CallKind, Control, ControlAnswer, ControlClientRuntime, ControlHead, Counters, Figure, Fleet,
+    Hosts, Port, PortRuntime, StopServer, answer_due, control_head_of, metrics, serve_control, stop,
 };
-use std::alloc::{AllocError, AllocGlobal, Global};
-use std::fs::{self, Files};
+use std::alloc::{AllocError, Global};
+use std::fs;
 use std::io::{self, Read, Write};
-use std::net::{Net, SocketAddr, TcpListener, TcpStream};
+use std::net::{SocketAddr, TcpStream};
 use std::os::unix::fs::PermissionsExt;
 use std::os::unix::net::{UnixListener, UnixStream};
 use std::sync::Arc;
@@ -154,7 +154,7 @@ fn waits_for_the_rest_of_a_head(rt: HostRuntime) -> Result<(), Fail> {
 }
 
 /// The response to one head.
-fn reply_to<R: Net + AllocGlobal>(rt: &R, address: SocketAddr, head: &str) -> io::Result<Vec<u8>> {
+fn reply_to<R: ControlClientRuntime>(rt: &R, address: SocketAddr, head: &str) -> io::Result<Vec<u8>> {
     let mut stream = TcpStream::connect(rt, address)?;
     stream.write_all(head.as_bytes())?;
     let mut reply = Vec::new(rt.alloc());
@@ -165,7 +165,7 @@ fn reply_to<R: Net + AllocGlobal>(rt: &R, address: SocketAddr, head: &str) -> io
 const HEALTH: &str = "GET /healthz HTTP/1.1\r\nhost: localhost\r\n\r\n";
 
 /// Whether each request has its response.
-fn are_right<R: Net + AllocGlobal>(
+fn are_right<R: ControlClientRuntime>(
     rt: &R,
     address: SocketAddr,
     control: &Control,
@@ -220,7 +220,7 @@ fn answers_and_stops(rt: HostRuntime) -> Result<(), Fail> {
 }
 
 /// How long a request takes next to so many connections that send nothing.
-fn time_next_to<R: Net + Clock + AllocGlobal>(
+fn time_next_to<R: ControlClientRuntime + Clock>(
     rt: &R,
     address: SocketAddr,
     count: usize,
@@ -263,10 +263,7 @@ fn answers_beside_idle_connections(rt: HostRuntime) -> Result<(), Fail> {
 const SOCKET: &str = "unix:control.sock";
 
 /// Whether a Unix socket is its owner's alone, is reached whatever the host, and stops the server.
-fn is_right_at_socket<R>(rt: &R) -> io::Result<bool>
-where
-    R: Net<Listener = TcpListener, Stream = TcpStream> + Files + AllocGlobal,
-{
+fn is_right_at_socket<R: PortRuntime>(rt: &R) -> io::Result<bool> {
     let mode = fs::symlink_metadata(rt, "control.sock")?
         .permissions()
         .mode();
