@@ -4,13 +4,14 @@ ghost use Rattle.mds_request.specs.Configuration.{configuration};
 ghost use Rattle.mds_snapshot.specs.Opening.{book_of};
 
 use crate::city::{BOTH, CAP, CONFIGURATION, NEW, SQUARE};
+use crate::runtime::TestRuntime;
 use bytes::Bytes;
 use futures::executor::block_on;
 use http::header::{AUTHORIZATION, CONTENT_TYPE};
 use http::request::Parts;
 use http::{HeaderMap, HeaderValue, Method, Response, Uri, Version};
 use http_body_util::{BodyExt, Full};
-use mds_parallel::Chunked;
+use mds_parallel::{Chunked, ParallelRuntime};
 use mds_request::Config;
 use mds_snapshot::{Blank, prepare};
 use mds_text::Moment;
@@ -20,9 +21,8 @@ use std::alloc::{AllocGlobal, Global};
 use std::marker::Brand;
 use std::process::Abort;
 use std::random::RandomSource;
-use std::sync::{Arc, Wait};
+use std::sync::Arc;
 use std::test::Fail;
-use std::thread::Threads;
 
 mod early;
 mod overlapping;
@@ -110,10 +110,10 @@ const QUESTION_OF_BRAVO: &HallExchange = &HallExchange {
     answer: NONE_COUNTED,
 };
 
-/// What tests need of the runtime, besides that threads may share it.
-trait HallRuntime: Wait + Threads + RandomSource + AllocGlobal + Abort + Copy {}
+/// What tests need of the runtime.
+trait HallRuntime: TestRuntime + ParallelRuntime + RandomSource + AllocGlobal + Copy {}
 
-impl<R: Wait + Threads + RandomSource + AllocGlobal + Abort + Copy> HallRuntime for R {}
+impl<R: TestRuntime + ParallelRuntime + RandomSource + AllocGlobal + Copy> HallRuntime for R {}
 
 /// The test that is run on a hall.
 #[derive(Clone, Copy)]
@@ -130,14 +130,14 @@ enum HallTest {
     LargeReport,
 }
 
-fn run_hall_test<R: HallRuntime + Sync>(rt: &R, visit: HallTest) -> Result<(), Fail> {
+fn run_hall_test<R: HallRuntime>(rt: &R, visit: HallTest) -> Result<(), Fail> {
     let alloc = rt.alloc();
     let config = Config::read(alloc, CONFIGURATION)?;
     let blank = prepare(alloc)?;
     open_and_run::<Brand, R>(rt, alloc, config, blank, visit)
 }
 
-fn open_and_run<K: HallName + Send + Sync, R: HallRuntime + Sync>(
+fn open_and_run<K: HallName + Send + Sync, R: HallRuntime>(
     rt: &R,
     alloc: Global,
     config: Config,
@@ -237,7 +237,7 @@ fn is_answer<R: HallRuntime>(rt: &R, response: HttpResult, answer: &ExpectedAnsw
 
 /// Whether the hall gives this answer to a head, if there is one, with this body. Vehicles are evaluated by several
 /// threads.
-fn gives<K: HallName, R: HallRuntime + Sync>(
+fn gives<K: HallName, R: HallRuntime>(
     rt: &R,
     hall: &Hall<K>,
     parts: Option<Parts>,
@@ -253,7 +253,7 @@ fn gives<K: HallName, R: HallRuntime + Sync>(
 }
 
 /// Whether the hall gives the exchange's answer to its request with this method.
-fn answers<K: HallName, R: HallRuntime + Sync>(
+fn answers<K: HallName, R: HallRuntime>(
     rt: &R,
     alloc: Global,
     hall: &Hall<K>,
@@ -267,7 +267,7 @@ fn answers<K: HallName, R: HallRuntime + Sync>(
 }
 
 /// Checks that the hall gives the exchange's answer to its request with this method.
-fn assert_answers<K: HallName, R: HallRuntime + Sync>(
+fn assert_answers<K: HallName, R: HallRuntime>(
     rt: &R,
     alloc: Global,
     hall: &Hall<K>,
@@ -279,7 +279,7 @@ fn assert_answers<K: HallName, R: HallRuntime + Sync>(
 }
 
 /// Puts the policy and its square as drafts and publishes them, at 1000.
-fn set_up<K: HallName, R: HallRuntime + Sync>(rt: &R, alloc: Global, hall: &Hall<K>) {
+fn set_up<K: HallName, R: HallRuntime>(rt: &R, alloc: Global, hall: &Hall<K>) {
     for exchange in DRAFTS {
         assert_answers(rt, alloc, hall, Method::PUT, exchange);
     }

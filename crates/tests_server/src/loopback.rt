@@ -10,7 +10,7 @@ use server_admission::Moments;
 use server_http::{ConnectionRuntime, Queues, bind_first};
 use server_start::{HallService, serve};
 use server_state::{Hall, HallName, SharedHallName};
-use std::alloc::{AllocGlobal, Global};
+use std::alloc::Global;
 use std::io::{self, Read, Write};
 use std::marker::Brand;
 use std::net::{Net, SocketAddr, TcpStream};
@@ -23,10 +23,10 @@ use tokio::runtime::Runtime;
 const CONFIGURATION: &[u8] =
     br#"{"author":"city","operators":[{"id":"00000000-0000-4000-8000-0000000000a1","limit":2,"token":"alfa"},{"id":"00000000-0000-4000-8000-0000000000b1","limit":2,"token":"bravo"}],"zone":"Z"}"#;
 
-/// What these tests need of the runtime, besides its sockets.
-trait LoopbackRuntime: ConnectionRuntime + Abort {}
+/// What these tests need of the runtime.
+trait LoopbackRuntime: ConnectionRuntime + Net<Stream = TcpStream> + Abort {}
 
-impl<R: ConnectionRuntime + Abort> LoopbackRuntime for R {}
+impl<R: ConnectionRuntime + Net<Stream = TcpStream> + Abort> LoopbackRuntime for R {}
 
 /// A request, and the status and the body of its answer.
 struct LoopbackExchange {
@@ -133,7 +133,7 @@ struct LoopbackClient {
 }
 
 /// Opens a connection for an exchange.
-fn open_client<R: Net<Stream = TcpStream> + AllocGlobal>(
+fn open_client<R: LoopbackRuntime>(
     rt: &R,
     address: SocketAddr,
     exchange: &LoopbackExchange,
@@ -172,7 +172,7 @@ fn are_answered(alloc: Global, mut clients: Vec<LoopbackClient>) -> bool {
 }
 
 /// Opens a connection for each exchange.
-fn clients_of<R: Net<Stream = TcpStream> + AllocGlobal>(
+fn clients_of<R: LoopbackRuntime>(
     rt: &R,
     address: SocketAddr,
     exchanges: &[LoopbackExchange],
@@ -193,7 +193,7 @@ struct LoopbackSetup {
 }
 
 /// A listener on a free port, and its clients.
-fn listen_with_clients<R: Net<Stream = TcpStream> + AllocGlobal>(
+fn listen_with_clients<R: LoopbackRuntime>(
     rt: &R,
     runtime: &Runtime,
     exchanges: &[LoopbackExchange],
@@ -204,10 +204,10 @@ fn listen_with_clients<R: Net<Stream = TcpStream> + AllocGlobal>(
     Ok((listener, clients))
 }
 
-fn setup_of<R>(rt: &R, exchanges: &[LoopbackExchange]) -> io::Result<LoopbackSetup>
-where
-    R: LoopbackRuntime + Net<Stream = TcpStream>,
-{
+fn setup_of<R: LoopbackRuntime>(
+    rt: &R,
+    exchanges: &[LoopbackExchange],
+) -> io::Result<LoopbackSetup> {
     let runtime = Runtime::with_worker_threads(rt, 2)?;
     let (listener, clients) = listen_with_clients(rt, &runtime, exchanges)?;
     Ok(LoopbackSetup {
@@ -219,14 +219,12 @@ where
 
 /// Serves one of the scripts. The hall is made once all else is there, so that no earlier failure
 /// leaves one to finish.
-fn serve_script<K: HallName + Send + Sync, R>(
+fn serve_script<K: HallName + Send + Sync, R: LoopbackRuntime>(
     rt: &R,
     config: Config,
     blank: Blank,
     script: Script,
 ) -> Result<(), Fail>
-where
-    R: LoopbackRuntime + Net<Stream = TcpStream>,
     requires book { book_of blank ≡ K.book }
     requires configured { configuration config ≡ K.configuration }
 {
@@ -240,16 +238,13 @@ where
 }
 
 /// Sends the requests, and serves concurrently.
-fn send_and_serve<K: SharedHallName, R>(
+fn send_and_serve<K: SharedHallName, R: LoopbackRuntime>(
     rt: &R,
     scene: LoopbackSetup,
     hall: Hall<K>,
     queues: Queues,
     moments: FixedClock,
-) -> (bool, io::Result<()>)
-where
-    R: LoopbackRuntime + Net<Stream = TcpStream>,
-{
+) -> (bool, io::Result<()>) {
     let LoopbackSetup {
         mut runtime,
         listener,
@@ -265,10 +260,7 @@ where
 }
 
 /// Runs one of the scripts.
-fn run_script<R>(rt: &R, script: Script) -> Result<(), Fail>
-where
-    R: LoopbackRuntime + Net<Stream = TcpStream>,
-{
+fn run_script<R: LoopbackRuntime>(rt: &R, script: Script) -> Result<(), Fail> {
     let config = Config::read(rt.alloc(), CONFIGURATION)?;
     let blank = prepare(rt.alloc())?;
     serve_script::<Brand, _>(rt, config, blank, script)
