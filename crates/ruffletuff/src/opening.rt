@@ -28,7 +28,7 @@ use mds_text::Id;
 use server_control::{Counters, Figure};
 use server_http::Queues;
 use server_start::workers;
-use server_state::{Hall, HallName};
+use server_state::{Hall, HallName, SharedHallName};
 use std::alloc::AllocGlobal;
 use std::fs::{File, Files};
 use std::marker::Brand;
@@ -314,7 +314,7 @@ fn resume<K: HallName, L: Log, R: ThreadHost + Wait>(
 /// # Errors
 ///
 /// As `resume`, `Folder` where the log couldn't be continued, or as `persist_and_serve`.
-fn serve_opening<K: HallName + Send + Sync, L: Log + Send, S: Space + Send, R>(
+fn serve_opening<K: SharedHallName, L: Log + Send, S: Space + Send, R>(
     rt: &R,
     log: L,
     space: S,

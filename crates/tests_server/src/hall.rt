@@ -16,7 +16,7 @@ use mds_request::Config;
 use mds_snapshot::{Blank, prepare};
 use mds_text::Moment;
 use server_responses::HttpResult;
-use server_state::{Arrived, Hall, HallName, respond};
+use server_state::{Arrived, Hall, HallName, SharedHallName, respond};
 use std::alloc::{AllocGlobal, Global};
 use std::marker::Brand;
 use std::process::Abort;
@@ -137,7 +137,7 @@ fn run_hall_test<R: HallRuntime>(rt: &R, visit: HallTest) -> Result<(), Fail> {
     open_and_run::<Brand, R>(rt, alloc, config, blank, visit)
 }
 
-fn open_and_run<K: HallName + Send + Sync, R: HallRuntime>(
+fn open_and_run<K: SharedHallName, R: HallRuntime>(
     rt: &R,
     alloc: Global,
     config: Config,

@@ -2,9 +2,9 @@
 ghost use Rattle.std.specs.Prelude.{◌≡◌};
 ghost use Rattle.mds_snapshot.specs.Opening.{book_of};
 
-use crate::waiting::is_set_in_time;
-use super::*;
 use super::looks::{EMPTY, POLICIES};
+use super::*;
+use crate::waiting::is_set_in_time;
 use mds_desk::Gate;
 use std::sync::Wait;
 use std::sync::atomic::{AtomicBool, Ordering};
@@ -18,7 +18,7 @@ impl<R: TestRuntime + Threads> DeskRuntime for R {}
 /// The name of an opening that several threads have.
 trait SharedOpeningName: OpeningName + Send + Sync {}
 
-impl<K: OpeningName + Send + Sync> SharedOpeningName for K {}
+impl SharedOpeningName for Brand {}
 
 /// Flags between two threads.
 #[derive(Drop)]
@@ -253,7 +253,7 @@ enum Overlap {
 }
 
 /// Runs it on a room and desks that are furnished for the configuration.
-fn run_overlap<K: OpeningName + Send + Sync, R: DeskRuntime>(
+fn run_overlap<K: SharedOpeningName, R: DeskRuntime>(
     rt: &R,
     alloc: Global,
     config: Config,
