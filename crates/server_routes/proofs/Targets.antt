@@ -1,7 +1,30 @@
 -- The path of a head's target and that of its URI have the same segments.
 use Rattle.std.proofs.Common.{
-  ◌≡◌, ◌==◌, ◌||◌, ◌∷◌, [], List, ℕ, Bool, true, false, cond, codes, length, not, is_some, Option, Some, None,
-  option_map, unwrap_or, arith, refl, sym, ap, ◌∙◌,
+  ◌≡◌,
+  ◌==◌,
+  ◌||◌,
+  ◌∷◌,
+  [],
+  List,
+  ℕ,
+  Bool,
+  true,
+  false,
+  cond,
+  codes,
+  length,
+  not,
+  is_some,
+  Option,
+  Some,
+  None,
+  option_map,
+  unwrap_or,
+  arith,
+  refl,
+  sym,
+  ap,
+  ◌∙◌,
 }
 use Rattle.std.specs.List.{before_first}
 use Rattle.std.specs.Option.{ForNone, ForSome}

@@ -1,6 +1,23 @@
 -- Words in a text.
 use Rattle.std.proofs.Common.{
-  ◌≡◌, ℕ, suc, ◌+◌, List, ◌∷◌, ◌<◌, length, drop, get_or, drop-cons, add-one, true, false, if◌then◌else◌, sym, ap, ◌∙◌,
+  ◌≡◌,
+  ℕ,
+  suc,
+  ◌+◌,
+  List,
+  ◌∷◌,
+  ◌<◌,
+  length,
+  drop,
+  get_or,
+  drop-cons,
+  add-one,
+  true,
+  false,
+  if◌then◌else◌,
+  sym,
+  ap,
+  ◌∙◌,
 }
 use Rattle.server_settings.specs.Address.{begins_with, times}
 
@@ -12,7 +29,7 @@ module _ (word text : List ℕ) (i : ℕ) (within : i < length text) where
       ≡ (if begins_with word (drop i text) then suc (times word (drop (i + 1) text)) else times word (drop (i + 1) text))
   step = ap (times word) shown
       ∙ ap (λ t. if begins_with word t then suc (times word (drop (i + 1) text)) else times word (drop (i + 1) text))
-        (sym shown)
+      (sym shown)
 
   -- a word that stands at this place, or doesn't
   pub taken : begins_with word (drop i text) ≡ true → times word (drop i text) ≡ suc (times word (drop (i + 1) text))

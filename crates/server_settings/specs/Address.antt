@@ -1,7 +1,28 @@
 -- Addresses of map tiles, and their origins.
 use Rattle.std.specs.Prelude.{
-  ℕ, suc, ◌-◌, ◌==◌, ◌&&◌, ◌||◌, not, nat_le, Bool, false, if◌then◌else◌, List, [], ◌∷◌, length, take, drop, bytes_eq,
-  codes, Option, Some, None, option_and_then,
+  ℕ,
+  suc,
+  ◌-◌,
+  ◌==◌,
+  ◌&&◌,
+  ◌||◌,
+  not,
+  nat_le,
+  Bool,
+  false,
+  if◌then◌else◌,
+  List,
+  [],
+  ◌∷◌,
+  length,
+  take,
+  drop,
+  bytes_eq,
+  codes,
+  Option,
+  Some,
+  None,
+  option_and_then,
 }
 use Rattle.std.specs.Char.{is_ascii_digit, is_ascii_alphanumeric}
 use Rattle.std.specs.List.{list_all, prefix_len}

@@ -1,6 +1,21 @@
 -- What is wrong with the value of `page`.
 use Rattle.std.specs.Prelude.{
-  ℕ, List, Bool, true, false, not, ◌&&◌, codes, if◌then◌else◌, Option, Some, None, is_some, option_and_then, Result, Ok,
+  ℕ,
+  List,
+  Bool,
+  true,
+  false,
+  not,
+  ◌&&◌,
+  codes,
+  if◌then◌else◌,
+  Option,
+  Some,
+  None,
+  is_some,
+  option_and_then,
+  Result,
+  Ok,
   Err,
 }
 use Rattle.mds_text.specs.Fault.{Fault}
@@ -25,7 +40,7 @@ fault_in ms =
     else if is_wrong (find_member (codes "tiles") ms) (is_some (tiles_in (find_member (codes "tiles") ms)))
     then Some Tiles
     else if is_wrong (find_member (codes "attribution") ms)
-      (is_some (caption_in most_attribution (find_member (codes "attribution") ms)))
+    (is_some (caption_in most_attribution (find_member (codes "attribution") ms)))
     then Some Attribution
     else None
 

@@ -1,7 +1,28 @@
 -- What the member `page` of a configuration says of the page for people, and the text of it that the page reads.
 use Rattle.std.specs.Prelude.{
-  ℕ, ℤ, pos, List, [], ◌∷◌, ◌++◌, Bool, not, ◌&&◌, nat_le, length, filter, codes, if◌then◌else◌, Option, Some, None,
-  option_map, option_and_then, Result, Ok, Err,
+  ℕ,
+  ℤ,
+  pos,
+  List,
+  [],
+  ◌∷◌,
+  ◌++◌,
+  Bool,
+  not,
+  ◌&&◌,
+  nat_le,
+  length,
+  filter,
+  codes,
+  if◌then◌else◌,
+  Option,
+  Some,
+  None,
+  option_map,
+  option_and_then,
+  Result,
+  Ok,
+  Err,
 }
 use Rattle.mds_geometry.specs.Coordinate.{coordinate_of, most_latitude, most_longitude}
 use Rattle.mds_text.specs.Fault.{Fault}
@@ -117,7 +138,7 @@ named name (Some value) = (name, value) ∷ []
 abbrev pub view_json : FirstView → Json
 view_json v =
     object (members_of
-      ((codes "lat", degrees v.lat) ∷ (codes "lng", degrees v.lng) ∷ (codes "zoom", int (pos v.zoom)) ∷ []))
+    ((codes "lat", degrees v.lat) ∷ (codes "lng", degrees v.lng) ∷ (codes "zoom", int (pos v.zoom)) ∷ []))
 
 -- the document that the page reads
 abbrev pub given_members : Given → List (List ℕ × Json)

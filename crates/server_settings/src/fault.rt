@@ -3,7 +3,13 @@ ghost use Rattle.std.specs.Prelude.{◌≡◌, IfOk, is_some, map, option_map};
 ghost use Rattle.mds_text.specs.Tree.{members_of};
 ghost use Rattle.mds_text.specs.View.{member_view, view};
 ghost use Rattle.server_settings.specs.Faults.{
-  fault_at, fault_in, fault_of, fault_wording, is_null, is_wrong, page_fault,
+  fault_at,
+  fault_in,
+  fault_of,
+  fault_wording,
+  is_null,
+  is_wrong,
+  page_fault,
 };
 
 use crate::first_view::view_in;

@@ -4,7 +4,15 @@ ghost use Rattle.mds_text.specs.Fields.{find_member};
 ghost use Rattle.mds_text.specs.Tree.{members_of};
 ghost use Rattle.mds_text.specs.View.{member_view, view};
 ghost use Rattle.server_settings.specs.Settings.{
-  begins_char, caption_in, given, given_in, is_caption, members_in, page_in, page_of, tiles_in,
+  begins_char,
+  caption_in,
+  given,
+  given_in,
+  is_caption,
+  members_in,
+  page_in,
+  page_of,
+  tiles_in,
 };
 
 use crate::address::is_address;

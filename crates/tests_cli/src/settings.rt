@@ -36,8 +36,7 @@ const NO_TILES: &str =
     connect-src 'self'; form-action 'none'; base-uri 'none'; frame-ancestors 'none'";
 
 /// The content policy with the map tiles of that page.
-const TILES: &str =
-    "default-src 'none'; script-src 'self'; worker-src 'self'; style-src 'self'; \
+const TILES: &str = "default-src 'none'; script-src 'self'; worker-src 'self'; style-src 'self'; \
     img-src 'self' data: https://t.example:8443; connect-src 'self'; form-action 'none'; base-uri 'none'; \
     frame-ancestors 'none'";
 
@@ -49,9 +48,18 @@ const FAULTS: &[(&str, Option<PageFault>)] = &[
     (r#"{"page":{"view":{"lat":90,"lng":-180,"zoom":22}}}"#, None),
     (r#"{"page":[]}"#, Some(PageFault::NoObject)),
     (r#"{"page":{"title":""}}"#, Some(PageFault::Title)),
-    (r#"{"page":{"view":{"lat":90.1,"lng":0,"zoom":1}}}"#, Some(PageFault::View)),
-    (r#"{"page":{"view":{"lat":0,"lng":0,"zoom":23}}}"#, Some(PageFault::View)),
-    (r#"{"page":{"attribution":7}}"#, Some(PageFault::Attribution)),
+    (
+        r#"{"page":{"view":{"lat":90.1,"lng":0,"zoom":1}}}"#,
+        Some(PageFault::View),
+    ),
+    (
+        r#"{"page":{"view":{"lat":0,"lng":0,"zoom":23}}}"#,
+        Some(PageFault::View),
+    ),
+    (
+        r#"{"page":{"attribution":7}}"#,
+        Some(PageFault::Attribution),
+    ),
 ];
 
 /// What is wrong with the page whose map tiles are at this address.
@@ -66,7 +74,10 @@ fn tells_addresses_from_other_texts(rt: HostRuntime) -> Result<(), Fail> {
         assert!(rt; tiles_fault(rt.alloc(), address)? == None, "{address}");
     }
     for text in OTHERS {
-        assert!(rt; tiles_fault(rt.alloc(), text)? == Some(PageFault::Tiles), "{text}");
+        assert!(rt;
+            tiles_fault(rt.alloc(), text)? == Some(PageFault::Tiles),
+            "{text}"
+        );
     }
     Ok(())
 }
@@ -91,7 +102,10 @@ fn names_the_origin_of_tiles(rt: HostRuntime) -> Result<(), Fail> {
 #[test]
 fn names_what_is_wrong(rt: HostRuntime) -> Result<(), Fail> {
     for (text, fault) in FAULTS {
-        assert!(rt; page_fault(rt.alloc(), text.as_bytes())? == *fault, "{text}");
+        assert!(rt;
+            page_fault(rt.alloc(), text.as_bytes())? == *fault,
+            "{text}"
+        );
     }
     Ok(())
 }
