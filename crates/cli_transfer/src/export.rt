@@ -77,12 +77,7 @@ fn fetch_tree<R: TransferHost>(
 /// # Errors
 ///
 /// `NotWritten`, `NoMemory`.
-fn write<R: FileHost>(
-    rt: &R,
-    folder: &str,
-    name: &str,
-    text: &[u8],
-) -> Result<(), TransferEnd> {
+fn write<R: FileHost>(rt: &R, folder: &str, name: &str, text: &[u8]) -> Result<(), TransferEnd> {
     let path = format!(in rt.alloc(); "{folder}/{name}")?;
     match fs::write(rt, path.as_str(), text) {
         Ok(()) => Ok(()),

@@ -98,10 +98,7 @@ fn first_bytes(alloc: Global, file: File) -> Result<Vec<u8>, TransferEnd> {
 /// # Errors
 ///
 /// `NoToken`, `BadPlace` where it isn't UTF-8, `NoMemory`.
-fn read_token<R: FileHost>(
-    rt: &R,
-    path: &str,
-) -> Result<String, TransferEnd> {
+fn read_token<R: FileHost>(rt: &R, path: &str) -> Result<String, TransferEnd> {
     let file = match open_source(rt, path) {
         Ok(file) => file,
         Err(FileOpenFault::NotRegular) => return Err(TransferEnd::NoToken(TokenFault::NotRegular)),
@@ -122,10 +119,7 @@ fn read_token<R: FileHost>(
 /// # Errors
 ///
 /// As `read_token`.
-fn token_from<R: FileHost>(
-    rt: &R,
-    source: TokenSource<'_>,
-) -> Result<String, TransferEnd> {
+fn token_from<R: FileHost>(rt: &R, source: TokenSource<'_>) -> Result<String, TransferEnd> {
     match source {
         TokenSource::Argument(token) => Ok(String::from_str(rt.alloc(), token)?),
         TokenSource::File(path) => read_token(rt, path),
