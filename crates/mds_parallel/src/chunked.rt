@@ -39,7 +39,7 @@ impl<R: Threads + Sync> ParallelRuntime for R {}
 #[derive(Clone, Copy)]
 pub struct Chunked<R>(pub R);
 
-impl<R: ParallelRuntime, P: Places> Evaluator<P> for Chunked<R> {
+impl<R: Threads + Sync, P: Places> Evaluator<P> for Chunked<R> {
     ghost use Rattle.std.specs.Prelude.{◌≡◌, ◌^◌, ◌<◌, All, IfOk, map};
     ghost use Rattle.std.specs.Thread.{IsSync};
     ghost use Rattle.mds_policy.specs.Policy.{policy_document};
