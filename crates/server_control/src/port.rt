@@ -2,14 +2,14 @@
 ghost use Rattle.server_control.specs.PortAddress.{PlaceOf};
 
 use crate::hosts::Hosts;
-use crate::runtime::PortRuntime;
+use crate::runtime::SocketRuntime;
 use libc::net::listen;
 use mio::unix::SourceFd;
 use mio::{Events, Interest, Poll, Token, Waker};
-use std::alloc::{AllocError, Global};
-use std::fs::{self, Permissions};
+use std::alloc::{AllocError, AllocGlobal, Global};
+use std::fs::{self, Files, Permissions};
 use std::io::{self, ErrorKind, Read, Write};
-use std::net::{IpAddr, SocketAddr, TcpListener, TcpStream};
+use std::net::{IpAddr, Net, SocketAddr, TcpListener, TcpStream};
 use std::os::fd::{AsFd, AsRawFd, RawFd};
 use std::os::unix::fs::{FileTypeExt, PermissionsExt};
 use std::os::unix::net::{SocketAddr as UnixAddr, UnixListener, UnixStream};
@@ -113,7 +113,7 @@ impl PortWaker {
 /// # Errors
 ///
 /// The path is too long or can't be bound, as there is a file.
-fn listen_at<R: PortRuntime>(rt: &R, path: &str) -> io::Result<UnixListener> {
+fn listen_at<R: SocketRuntime>(rt: &R, path: &str) -> io::Result<UnixListener> {
     let socket = rt.unix_socket()?;
     rt.bind_unix(socket.as_fd(), &UnixAddr::from_pathname(path)?)?;
     fs::set_permissions(rt, path, Permissions::from_mode(OWNER_ONLY))?;
@@ -124,7 +124,7 @@ fn listen_at<R: PortRuntime>(rt: &R, path: &str) -> io::Result<UnixListener> {
 }
 
 /// Whether a path is that of a socket at which nobody listens any more.
-fn is_abandoned<R: PortRuntime>(rt: &R, path: &str) -> bool {
+fn is_abandoned<R: SocketRuntime>(rt: &R, path: &str) -> bool {
     let is_socket = match fs::symlink_metadata(rt, path) {
         Ok(found) => found.file_type().is_socket(),
         Err(_) => false,
@@ -141,7 +141,7 @@ fn is_abandoned<R: PortRuntime>(rt: &R, path: &str) -> bool {
 /// # Errors
 ///
 /// The path can't be bound, as somebody listens there, or another file has it.
-fn bind_unix<R: PortRuntime>(rt: &R, path: &str) -> io::Result<UnixListener> {
+fn bind_unix<R: SocketRuntime>(rt: &R, path: &str) -> io::Result<UnixListener> {
     if is_abandoned(rt, path) {
         fs::remove_file(rt, path)?;
     }
@@ -171,7 +171,10 @@ impl Port {
     /// # Errors
     ///
     /// Nothing can be listened to there, or memory ran out.
-    pub fn bind<R: PortRuntime>(rt: &R, address: &str, name: Option<&str>) -> io::Result<Port> {
+    pub fn bind<R>(rt: &R, address: &str, name: Option<&str>) -> io::Result<Port>
+    where
+        R: Net<Listener = TcpListener, Stream = TcpStream> + Files + AllocGlobal,
+    {
         let alloc = rt.alloc();
         let poll = Poll::new(rt)?;
         let listener = match port_address_of(address) {

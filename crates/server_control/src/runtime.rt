@@ -2,13 +2,13 @@
 
 use std::alloc::AllocGlobal;
 use std::fs::Files;
-use std::net::{Net, TcpListener, TcpStream};
+use std::net::Net;
 use std::time::Clock;
 
-/// What listening needs: sockets, the files that are Unix sockets, and memory.
-pub trait PortRuntime: Net<Listener = TcpListener, Stream = TcpStream> + Files + AllocGlobal {}
+/// What a Unix socket needs: sockets, and the files that they are.
+pub(crate) trait SocketRuntime: Net + Files {}
 
-impl<R: Net<Listener = TcpListener, Stream = TcpStream> + Files + AllocGlobal> PortRuntime for R {}
+impl<R: Net + Files> SocketRuntime for R {}
 
 /// What answering needs: the clock and memory.
 pub trait ControlRuntime: Clock + AllocGlobal {}

@@ -1,11 +1,12 @@
 //! Tests of the control port over loopback.
 use server_control::{
     CallKind, Control, ControlAnswer, ControlClientRuntime, ControlHead, ControlReply, Counters,
-    Figure, Fleet, Hosts, Port, PortRuntime, StopServer, control_head_of, metrics, reply_due,
-    serve_control, stop,
+    Figure, Fleet, Hosts, Port, StopServer, control_head_of, metrics, reply_due, serve_control,
+    stop,
 };
 use std::alloc::{AllocError, Global};
 use std::fs;
+use std::fs::Files;
 use std::io::{self, Read, Write};
 use std::net::{SocketAddr, TcpStream};
 use std::os::unix::fs::PermissionsExt;
@@ -59,7 +60,11 @@ fn lets_in_who_names_its_host(rt: HostRuntime) -> Result<(), Fail> {
     ] {
         let lines = format!(in rt.alloc(); "GET /healthz HTTP/1.1\r\nhOsT: {host}\r\n\r\n")?;
         let found = heading_in(rt.alloc(), &lines)?;
-        assert_eq!(rt; found, ControlHead::Whole(reply(ControlAnswer::Healthy)), "{host}");
+        assert_eq!(rt;
+            found,
+            ControlHead::Whole(reply(ControlAnswer::Healthy)),
+            "{host}"
+        );
     }
     Ok(())
 }
@@ -182,7 +187,11 @@ fn waits_for_the_rest_of_a_head(rt: HostRuntime) -> Result<(), Fail> {
 }
 
 /// The response to one head.
-fn reply_to<R: ControlClientRuntime>(rt: &R, address: SocketAddr, head: &str) -> io::Result<Vec<u8>> {
+fn reply_to<R: ControlClientRuntime>(
+    rt: &R,
+    address: SocketAddr,
+    head: &str,
+) -> io::Result<Vec<u8>> {
     let mut stream = TcpStream::connect(rt, address)?;
     stream.write_all(head.as_bytes())?;
     let mut reply = Vec::new(rt.alloc());
@@ -293,7 +302,7 @@ fn answers_beside_idle_connections(rt: HostRuntime) -> Result<(), Fail> {
 const SOCKET: &str = "unix:control.sock";
 
 /// Whether a Unix socket is its owner's alone, is reached whatever the host, and stops the server.
-fn is_right_at_socket<R: PortRuntime>(rt: &R) -> io::Result<bool> {
+fn is_right_at_socket<R: ControlClientRuntime + Files>(rt: &R) -> io::Result<bool> {
     let mode = fs::symlink_metadata(rt, "control.sock")?
         .permissions()
         .mode();
@@ -301,13 +310,7 @@ fn is_right_at_socket<R: PortRuntime>(rt: &R) -> io::Result<bool> {
     stream.write_all(b"GET /healthz HTTP/1.1\r\nhost: any\r\n\r\n")?;
     let mut reply = Vec::new(rt.alloc());
     stream.read_to_end(&mut reply)?;
-    let is_taken = Port::bind(rt, SOCKET, None).is_err();
-    Ok(
-        mode & 0o777 == 0o600
-            && reply.starts_with(b"HTTP/1.1 503 ")
-            && is_taken
-            && stop(rt, SOCKET)?,
-    )
+    Ok(mode & 0o777 == 0o600 && reply.starts_with(b"HTTP/1.1 503 ") && stop(rt, SOCKET)?)
 }
 
 #[test]
@@ -315,6 +318,7 @@ fn listens_at_a_socket(rt: HostRuntime) -> Result<(), Fail> {
     let abandoned = UnixListener::bind(&rt, "control.sock")?;
     drop(abandoned);
     let mut port = Port::bind(&rt, SOCKET, None)?;
+    assert!(rt; Port::bind(&rt, SOCKET, None).is_err());
     let waker = port.waker()?;
     let counters = zero_counters(rt.alloc())?;
     let control = Control::new();

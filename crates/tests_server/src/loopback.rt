@@ -23,10 +23,10 @@ use tokio::runtime::Runtime;
 const CONFIGURATION: &[u8] =
     br#"{"author":"city","operators":[{"id":"00000000-0000-4000-8000-0000000000a1","limit":2,"token":"alfa"},{"id":"00000000-0000-4000-8000-0000000000b1","limit":2,"token":"bravo"}],"zone":"Z"}"#;
 
-/// What these tests need of the runtime.
-trait LoopbackRuntime: ConnectionRuntime + Net<Stream = TcpStream> + Abort {}
+/// What these tests need of the runtime, besides its sockets.
+trait LoopbackRuntime: ConnectionRuntime + Abort {}
 
-impl<R: ConnectionRuntime + Net<Stream = TcpStream> + Abort> LoopbackRuntime for R {}
+impl<R: ConnectionRuntime + Abort> LoopbackRuntime for R {}
 
 /// A request, and the status and the body of its answer.
 struct LoopbackExchange {
@@ -133,12 +133,12 @@ struct LoopbackClient {
 }
 
 /// Opens a connection for an exchange.
-fn open_client<R: LoopbackRuntime>(
+fn open_client<R: Net<Stream = TcpStream>>(
     rt: &R,
+    alloc: Global,
     address: SocketAddr,
     exchange: &LoopbackExchange,
 ) -> io::Result<LoopbackClient> {
-    let alloc = rt.alloc();
     Ok(LoopbackClient {
         stream: TcpStream::connect(rt, address)?,
         request: format!(in alloc;
@@ -172,14 +172,15 @@ fn are_answered(alloc: Global, mut clients: Vec<LoopbackClient>) -> bool {
 }
 
 /// Opens a connection for each exchange.
-fn clients_of<R: LoopbackRuntime>(
+fn clients_of<R: Net<Stream = TcpStream>>(
     rt: &R,
+    alloc: Global,
     address: SocketAddr,
     exchanges: &[LoopbackExchange],
 ) -> io::Result<Vec<LoopbackClient>> {
-    let mut clients = Vec::with_capacity(rt.alloc(), exchanges.len())?;
+    let mut clients = Vec::with_capacity(alloc, exchanges.len())?;
     for exchange in exchanges {
-        clients.push(open_client(rt, address, exchange)?)?;
+        clients.push(open_client(rt, alloc, address, exchange)?)?;
     }
     Ok(clients)
 }
@@ -192,24 +193,16 @@ struct LoopbackSetup {
     clients: Vec<LoopbackClient>,
 }
 
-/// A listener on a free port, and its clients.
-fn listen_with_clients<R: LoopbackRuntime>(
+/// The runtime with a listener on a free port, and its clients.
+fn listen_with_clients<R: Net<Stream = TcpStream>>(
     rt: &R,
-    runtime: &Runtime,
-    exchanges: &[LoopbackExchange],
-) -> io::Result<(TcpListener, Vec<LoopbackClient>)> {
-    let listener = bind_first(rt, "127.0.0.1:0", runtime.handle().reactor())?;
-    let address = listener.local_addr()?;
-    let clients = clients_of(rt, address, exchanges)?;
-    Ok((listener, clients))
-}
-
-fn setup_of<R: LoopbackRuntime>(
-    rt: &R,
+    alloc: Global,
+    runtime: Runtime,
     exchanges: &[LoopbackExchange],
 ) -> io::Result<LoopbackSetup> {
-    let runtime = Runtime::with_worker_threads(rt, 2)?;
-    let (listener, clients) = listen_with_clients(rt, &runtime, exchanges)?;
+    let listener = bind_first(rt, "127.0.0.1:0", runtime.handle().reactor())?;
+    let address = listener.local_addr()?;
+    let clients = clients_of(rt, alloc, address, exchanges)?;
     Ok(LoopbackSetup {
         runtime,
         listener,
@@ -221,6 +214,7 @@ fn setup_of<R: LoopbackRuntime>(
 /// leaves one to finish.
 fn serve_script<K: SharedHallName, R: LoopbackRuntime>(
     rt: &R,
+    scene: LoopbackSetup,
     config: Config,
     blank: Blank,
     script: Script,
@@ -228,7 +222,6 @@ fn serve_script<K: SharedHallName, R: LoopbackRuntime>(
     requires book { book_of blank ≡ K.book }
     requires configured { configuration config ≡ K.configuration }
 {
-    let scene = setup_of(rt, script.exchanges())?;
     let queues = Queues::new(rt.alloc(), &config)?;
     let hall = Hall::<K>::new(rt, rt.alloc(), config, blank)?;
     let (wanted, served) = send_and_serve(rt, scene, hall, queues, script.clock());
@@ -260,10 +253,15 @@ fn send_and_serve<K: SharedHallName, R: LoopbackRuntime>(
 }
 
 /// Runs one of the scripts.
-fn run_script<R: LoopbackRuntime>(rt: &R, script: Script) -> Result<(), Fail> {
+fn run_script<R>(rt: &R, script: Script) -> Result<(), Fail>
+where
+    R: LoopbackRuntime + Net<Stream = TcpStream>,
+{
+    let runtime = Runtime::with_worker_threads(rt, 2)?;
+    let scene = listen_with_clients(rt, rt.alloc(), runtime, script.exchanges())?;
     let config = Config::read(rt.alloc(), CONFIGURATION)?;
     let blank = prepare(rt.alloc())?;
-    serve_script::<Brand, _>(rt, config, blank, script)
+    serve_script::<Brand, _>(rt, scene, config, blank, script)
 }
 
 /// A policy is published, and an operator asks for compliance.
