@@ -5,12 +5,12 @@
 
 Expects of a server at 127.0.0.1, at every address, with a name of its own, and at a Unix socket: who names its address, localhost or that
 name is answered; a 405, and no other answer, names the methods that its path takes; HEAD is answered as GET, without the body; another host,
-an Origin or a Sec-Fetch-Site is refused with 403, and stops nothing; none or several hosts are 400; a head is answered as soon as it ends, by line feeds alone too, and a connection
-whose head doesn't end is closed in its time; beside 50 and beside 200 connections that say nothing the health is told within 100 ms; a Unix
-socket is its owner's alone, and takes the place of one that was left behind, and of nothing else; `ruffletuff stop` ends the server beside
-idle connections too; curl is answered; and a page of another origin, in Chromium, neither reads it nor stops it. What wants a package that
-isn't there is left out, which a line names (packages.py). Prints what is otherwise, and last 'N passed, M failed'; ends with 1 where one
-failed.
+an Origin or a Sec-Fetch-Site is refused with 403, and stops nothing; none or several hosts are 400; a head is answered as soon as it ends,
+by line feeds alone too, and a connection whose head doesn't end is closed in its time; beside 50 and beside 200 connections that say nothing
+the health is told within 100 ms; a Unix socket is its owner's alone, and takes the place of one that was left behind, and of nothing else;
+`ruffletuff stop` ends the server beside idle connections too; curl is answered; and a page of another origin, in Chromium, neither reads it
+nor stops it. What wants a package that isn't there is left out, which a line names (packages.py). Prints what is otherwise, and last
+'N passed, M failed'; ends with 1 where one failed.
 """
 
 import contextlib

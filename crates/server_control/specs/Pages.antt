@@ -45,7 +45,8 @@ answer_at page.Stop serves = Stops
 abbrev pub answered : List ℕ → Option ControlPage → Bool → ControlAnswer
 answered method None serves = NotFound
 answered method (Some page) serves =
-    if bytes_eq (as_get method) (method_name (method_of page)) then answer_at page serves else NotAllowed (method_of page)
+    if bytes_eq (as_get method) (method_name (method_of page)) then answer_at page serves
+    else NotAllowed (method_of page)
 
 abbrev pub answer_of : List ℕ → List ℕ → Bool → ControlAnswer
 answer_of method path serves = answered method (page_of path) serves
