@@ -1,0 +1,6 @@
+pub mod Order
+pub mod Register
+pub mod Kinds
+pub mod Lawful
+pub mod Outcomes
+pub mod Laws
