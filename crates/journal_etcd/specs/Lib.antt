@@ -1,0 +1,7 @@
+pub mod Values
+pub mod Keys
+pub mod Requests
+pub mod Transport
+pub mod Responses
+pub mod Answers
+pub mod Errors
