@@ -30,7 +30,7 @@ outcome_of t Missing = Unknown
 abbrev pub answer_of : Register → Transaction → Answer
 answer_of k t = if holds k t then Succeeded else Failed k.owner k.head
 
--- what a look at a register shows
+-- a later look at the same register may show that one: nothing has gone back
 abbrev pub may_precede : Look → Look → Bool
 may_precede look later =
     (look.cluster == later.cluster) && nat_le look.revision later.revision

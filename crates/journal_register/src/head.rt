@@ -27,6 +27,7 @@ pub struct Generation {
 /// How far the chunks of a generation go.
 #[derive(Clone, Copy, Debug, PartialEq, Eq)]
 pub struct Extent {
+    /// Whose chunks they are.
     pub generation: Generation,
     /// How many chunks there are, from index 0 on.
     pub chunks: u64,
@@ -48,9 +49,11 @@ pub struct Switch {
 /// The head of a register: what of its chunks is the journal. What lies behind it isn't there.
 #[derive(Clone, Copy, Debug, PartialEq, Eq)]
 pub struct Head {
+    /// The generation that is the journal, and how far it goes.
     pub extent: Extent,
     /// How many times an owner has shown that it lives, where it had nothing to append.
     pub beat: u64,
+    /// How it came to that generation.
     pub switch: Switch,
 }
 

@@ -14,7 +14,9 @@ pub struct Look {
     pub cluster: u64,
     /// etcd's revision, which rises with each change of any key.
     pub revision: u64,
+    /// The value of the owner's key.
     pub owner: Owner,
+    /// The value of the head's key.
     pub head: Head,
 }
 

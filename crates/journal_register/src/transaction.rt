@@ -21,6 +21,7 @@ use journal_file::LogEnd;
 /// Where a chunk of the journal's bytes stands.
 #[derive(Clone, Copy, Debug, PartialEq, Eq)]
 pub struct ChunkKey {
+    /// The generation that it is of.
     pub generation: Generation,
     /// Its place among the chunks of its generation, from 0 on.
     pub index: u64,
