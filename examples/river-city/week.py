@@ -44,10 +44,10 @@ def in_the_week(policy):
     return {**policy, "start_date": policy["start_date"] - weeks * WEEK, "end_date": policy["end_date"] - weeks * WEEK}
 
 
-def of_author():
-    """What the author asks for at the week's begin: the earlier cap with the places, then the policies."""
+def of_author(moved):
+    """What the author asks for at first: the earlier cap with the places, then the policies, with the festival moved."""
     places, (earlier, *policies) = publish.named("geography"), publish.named("policy")
-    policies[-1] = in_the_week(policies[-1])
+    policies[-1] = moved(policies[-1])
     for it in places:
         yield "PUT", f"/drafts/geographies/{it['geography_id']}", it
     for it in (earlier, *policies):
@@ -94,20 +94,19 @@ def of_operators(ids):
         yield from sorted(found, key=lambda it: it[0])
 
 
-def texts(configuration):
-    """The payloads of the journal."""
-    operators = configuration["operators"]
-    yield records.head([(it["id"], it["limit"]) for it in operators])
-    for method, target, body in of_author():
-        yield records.entry(MONDAY, method, None, target.encode(), json.dumps(body).encode())
-    for at, operator, body in of_operators([it["id"] for it in operators]):
+def texts(configuration, begun, asked, reports):
+    """The payloads of a journal: what the author asks for when it begins, and what operators report then and later."""
+    yield records.head([(it["id"], it["limit"]) for it in configuration["operators"]])
+    for method, target, body in asked:
+        yield records.entry(begun, method, None, target.encode(), json.dumps(body).encode())
+    for at, operator, body in reports:
         yield records.entry(at, "POST", operator, b"/fleet/events", json.dumps(body, separators=(",", ":")).encode())
 
 
-def journal(configuration):
-    """The bytes of the journal, and how many records it has."""
+def journal(*given):
+    """The bytes of the journal of these, and how many records it has."""
     parts, sum_, position = [], 0, 0
-    for text in texts(configuration):
+    for text in texts(*given):
         part, sum_ = records.group(sum_, position, position, [text])
         parts.append(part)
         position += len(part)
@@ -183,7 +182,8 @@ def main():
     first = configuration["operators"][0]
     for it in (options.folder, os.path.join(options.folder, first["token"])):
         clear(it)
-    bytes_, count = journal(configuration)
+    reports = of_operators([it["id"] for it in configuration["operators"]])
+    bytes_, count = journal(configuration, MONDAY, of_author(in_the_week), reports)
     with open(os.path.join(city, "journal"), "wb") as file:
         file.write(bytes_)
     print(f"a week of {count} records, {len(bytes_)} bytes, in {city}", flush=True)

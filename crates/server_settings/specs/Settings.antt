@@ -101,6 +101,13 @@ page_read (Err fault) = None
 abbrev pub settings_of : List ℕ → Option Given
 settings_of configuration = page_read (read_text configuration)
 
+-- the page's title, where a configuration gives it one: the city's
+abbrev pub title_of : Option Given → Option (List ℕ)
+title_of page = option_and_then (λ g. g.title) page
+
+abbrev pub page_title : List ℕ → Option (List ℕ)
+page_title configuration = title_of (settings_of configuration)
+
 -- a member with this name, where there is a value
 abbrev pub named : List ℕ → Option Json → List (List ℕ × Json)
 named name None = []

@@ -9,7 +9,9 @@ mod policy;
 mod settings;
 #[cfg(test)]
 mod tests;
+mod title;
 
 pub use document::settings_text;
 pub use fault::{PageFault, page_fault};
 pub use policy::content_policy;
+pub use title::page_title;

@@ -1,6 +1,6 @@
 //! Tests of addresses, and of what a configuration says of the page.
 use crate::address::{is_address, origin_of};
-use crate::{PageFault, content_policy, page_fault, settings_text};
+use crate::{PageFault, content_policy, page_fault, page_title, settings_text};
 
 #[test]
 fn addresses_are_told_from_other_texts(rt: HostRuntime) {
@@ -35,6 +35,26 @@ fn a_page_is_read(rt: HostRuntime) {
             .expect(&rt, "memory")
             .is_none()
     );
+}
+
+#[test]
+fn a_title_is_read(rt: HostRuntime) {
+    let alloc = rt.alloc();
+    let text = r#"{"page":{"title":"Zürich","attribution":"City"}}"#.as_bytes();
+    let title = page_title(alloc, text)
+        .expect(&rt, "memory")
+        .expect(&rt, "a title");
+    assert!(rt; title.as_str() == "Zürich");
+    for none in [
+        "{}",
+        "{\"page\":{\"title\":\"\"}}",
+        "{\"title\":\"x\"}",
+        "[]",
+        "x",
+    ] {
+        let found = page_title(alloc, none.as_bytes()).expect(&rt, "memory");
+        assert!(rt; found.is_none());
+    }
 }
 
 #[test]

@@ -16,6 +16,8 @@ mod documents;
 #[cfg(test)]
 mod report;
 #[cfg(test)]
+mod report_rules;
+#[cfg(test)]
 mod timezone;
 #[cfg(test)]
 mod vehicles;
