@@ -193,7 +193,7 @@ pub fn archive_name(alloc: Global, span: &JournalSpan, number: u32) -> Result<St
 }
 
 /// What stands at a name, by the bytes that were found there.
-pub(crate) fn slot_of(found: Option<&[u8]>, bytes: &[u8]) -> ArchiveSlot
+pub fn slot_of(found: Option<&[u8]>, bytes: &[u8]) -> ArchiveSlot
     ensures { result ≡ slot_of (option_map (λ found. found.now) found.entry) bytes.now }
 {
     match found {

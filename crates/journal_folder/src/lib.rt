@@ -17,11 +17,10 @@ mod latest;
 mod script;
 mod startable;
 mod survey;
-#[cfg(test)]
-mod tests;
 
 pub use archive::{
     Archive, ArchiveFault, ArchiveSlot, JournalSpan, archive_journal, archive_name, journal_span,
+    slot_of,
 };
 pub use archive_files::{archive_in, check_archive};
 pub use compaction_files::{
@@ -34,7 +33,7 @@ pub use compactions::{
 pub use cut_files::CutFiles;
 pub use extraction::{Extract, extract_entries, without_operators};
 pub use fault::{Damage, FolderFault};
-pub use files::{create_locked, lock_file};
+pub use files::{Identity, NameOwner, PathEntry, create_locked, lock_file, owner_of};
 pub use folder::{Folder, journal_bytes, open_folder, sync_names};
 pub use folders::Folders;
 pub use journal::{begin_journal, entries_in, lent_entries_in, suits};

@@ -19,6 +19,8 @@ mod failing;
 #[cfg(test)]
 mod file;
 #[cfg(test)]
+mod folder;
+#[cfg(test)]
 mod journal;
 #[cfg(test)]
 mod kept_entries;

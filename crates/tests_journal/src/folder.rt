@@ -1,9 +1,9 @@
-//! Tests of the decisions on files and on journals.
-use crate::archive::{ArchiveSlot, JournalSpan, archive_name, slot_of};
-use crate::fault::{Damage, FolderFault};
-use crate::files::{Identity, NameOwner, PathEntry, owner_of};
-use crate::survey::{damage_of, survey_of};
+//! Tests of what a state folder decides on files and on journals.
 use journal_file::{JournalEnding, JournalOpenFault, Signature};
+use journal_folder::{
+    ArchiveSlot, Damage, FolderFault, Identity, JournalSpan, NameOwner, PathEntry, archive_name,
+    damage_of, owner_of, slot_of, survey_of,
+};
 use mds_text::Moment;
 
 const OPENED: Identity = Identity {

@@ -1,9 +1,7 @@
 //! Tests of the page's responses.
-use crate::file::File;
-use crate::page::Page;
-use crate::tag::{is_named, tag_of};
 use http::header::IF_NONE_MATCH;
 use http::{HeaderMap, HeaderValue};
+use server_page::{File, Page, is_named, tag_of};
 use std::alloc::Global;
 
 /// The SHA-256 of `abc` in quotes (FIPS 180-4, its first example).
