@@ -7,8 +7,6 @@ mod fault;
 mod first_view;
 mod policy;
 mod settings;
-#[cfg(test)]
-mod tests;
 mod title;
 
 pub use document::settings_text;
