@@ -3,28 +3,53 @@
 use journal_folder::{FolderFault, Folders, journal_at};
 use mds_text::Moment;
 use server_past::{PastFault, PastJournals};
-use std::alloc::Global;
+use std::alloc::{AllocError, Global};
 use std::io::Eprint;
 
 /// The journal of a city's folder, and those of its archive, where there is one.
 #[derive(Drop)]
-pub struct CityJournals<'a, R> {
+pub struct CityJournals<R> {
     /// The runtime, by which files are read and faults reported.
-    pub rt: R,
+    rt: R,
     /// The city's folder.
-    pub folder: &'a str,
+    folder: String,
     /// The archive's folder; `None` where there is none.
-    pub archive: Option<&'a str>,
+    archive: Option<String>,
 }
 
-impl<R: Folders + Eprint> PastJournals for CityJournals<'_, R> {
+impl<R: Drop> CityJournals<R> {
+    /// The journals of a city's folder and of its archive; `None` where there is none.
+    ///
+    /// # Errors
+    ///
+    /// Out of memory.
+    pub fn new(
+        rt: R,
+        alloc: Global,
+        folder: &str,
+        archive: Option<&str>,
+    ) -> Result<CityJournals<R>, AllocError> {
+        let archive = match archive {
+            Some(path) => Some(String::from_str(alloc, path)?),
+            None => None,
+        };
+        Ok(CityJournals {
+            rt,
+            folder: String::from_str(alloc, folder)?,
+            archive,
+        })
+    }
+}
+
+impl<R: Folders + Eprint> PastJournals for CityJournals<R> {
     ghost use Rattle.std.specs.Prelude.{⊤};
 
     // Of files no contract says anything.
     ghost tells = { λ journals at bytes. ⊤ };
 
     fn journal_at(&self, alloc: Global, at: Moment) -> Result<Option<Vec<u8>>, FolderFault> {
-        journal_at(&self.rt, alloc, self.folder, self.archive, at)
+        let folder = self.folder.as_str();
+        journal_at(&self.rt, alloc, folder, self.archive.as_deref(), at)
     }
 
     fn report_fault(&self, at: Moment, fault: PastFault) {

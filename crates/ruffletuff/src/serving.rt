@@ -170,11 +170,7 @@ where
     R: ServerHost,
 {
     let board = stage.board;
-    let journals = CityJournals {
-        rt: *rt,
-        folder: stage.folder,
-        archive: stage.archive,
-    };
+    let journals = CityJournals::new(*rt, rt.alloc(), stage.folder, stage.archive)?;
     let site = Site::open(
         rt,
         city,
