@@ -105,7 +105,10 @@ fn reads_a_title(rt: HostRuntime) -> Result<(), Fail> {
     let title = page_title(rt.alloc(), text.as_bytes())?.expect(&rt, "a title");
     assert!(rt; title.as_str() == "Zürich");
     for text in UNTITLED {
-        assert!(rt; page_title(rt.alloc(), text.as_bytes())?.is_none(), "{text}");
+        assert!(rt;
+            page_title(rt.alloc(), text.as_bytes())?.is_none(),
+            "{text}"
+        );
     }
     Ok(())
 }
