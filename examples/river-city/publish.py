@@ -5,7 +5,7 @@
 
 URL is a server for the configuration city.json that has just begun, as http://127.0.0.1:8080. A cap of an earlier year is published
 first, which the cap in force supersedes; the festival is moved by whole weeks until it is still to come. The operator `scoot` has 419
-vehicles and breaks two to four rules, by the hour, `wheels` has 112 and keeps all of them; with N, `scoot` reports as many more that
+vehicles and breaks two to four rules, depending on the time of day, `wheels` has 112 and keeps all of them; with N, `scoot` reports as many more that
 break none; with --policies-only nobody reports any. Prints the URL and the access tokens. Ends with 1 where a request isn't answered 200.
 """
 
@@ -50,8 +50,8 @@ WHEELS = [
 ]
 # The operators' tokens, what is to be said of each, and its fleet with the seed of its positions.
 FLEETS = (
-    ("scoot", "an operator that breaks two to four rules, by the hour", SCOOT, 7),
-    ("wheels", "an operator that keeps all rules", WHEELS, 8),
+    ("scoot", "an operator that breaks two to four rules, depending on the time of day", SCOOT, 7),
+    ("wheels", "an operator that keeps all rules now", WHEELS, 8),
 )
 
 

@@ -95,7 +95,7 @@ def fill(state, more):
 
 @contextlib.contextmanager
 def city(program, port, more):
-    """A server of the configuration of this folder, once it is ready, with how many vehicles each operator has."""
+    """A server of the configuration of this folder, once it is ready: its state folder, and how many vehicles each operator has."""
     with tempfile.TemporaryDirectory(prefix="river-city-") as state:
         counts = fill(state, more)
         words = ["serve", "--config", f"{HERE}/city.json", "--state", state, "--listen", f"127.0.0.1:{port}"]
@@ -103,10 +103,22 @@ def city(program, port, more):
         try:
             if process.stdout.readline() != b"ready\n":
                 raise SystemExit(f"try: {program} didn't start")
-            yield counts
+            yield state, counts
         finally:
             process.terminate()
             process.wait()
+
+
+def tell_report(program, state):
+    """Prints the command for a report on the first operator of this city, over the week until now."""
+    configuration = publish.document("city.json")
+    os.environ["TZ"] = configuration["zone"]
+    time.tzset()
+    begun, ended = (time.strftime("%Y-%m-%dT%H:%M", time.localtime(it)) for it in (time.time() - AGE // 1000, time.time()))
+    path = os.path.relpath(os.path.join(HERE, "city.json"))
+    command = [program, "report", state, "--config", path, "--from", begun, "--to", ended]
+    print("The city is kept in a folder that goes when this ends. Who broke which rule in its week until now, and since when:")
+    week.tell_alone(command, configuration["operators"][0], os.path.join("out", "river-city", configuration["operators"][0]["token"]))
 
 
 def main():
@@ -117,11 +129,12 @@ def main():
     options = parser.parse_args()
     signal.signal(signal.SIGTERM, signal.default_int_handler)
     port = options.port or free_port()
-    with city(options.program, port, options.vehicles) as counts, contextlib.suppress(KeyboardInterrupt):
+    with city(options.program, port, options.vehicles) as (state, counts), contextlib.suppress(KeyboardInterrupt):
         told = {token: f"{who}, with {counts[token]} vehicles" for token, who, _, _ in publish.FLEETS}
         publish.tell(f"http://127.0.0.1:{port}", publish.document("city.json")["author"], told)
         print("The city is a week old: choose an earlier moment below the map to see how operators stood then.")
-        print("make report reports a week of it: who broke which rule, and since when.")
+        tell_report(options.program, state)
+        print("make report makes another, made-up week of River City, in March 2026: not the one that this page shows.")
         print("Ctrl-C ends it.", flush=True)
         signal.pause()
     return 0

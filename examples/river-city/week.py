@@ -3,11 +3,12 @@
 
     week.py PROGRAM DIR [--every MINUTES]
 
-PROGRAM is a built ruffletuff. DIR gets the city's folder `city` and the report, with report.html, in the place of earlier ones. The week
+PROGRAM is a built ruffletuff. DIR gets the city's folder `city` and the report, with report.html, in the place of an earlier one. The week
 is the one from Monday, 2 March 2026 on, with the night in which clocks are set forward. Places, policies and fleets are those of
 publish.py; the festival is in this week. Vehicles go downtown by day and back at night, and many to the waterfront at the weekend; those
 that are broken, or have stood too long by then, stay. Prints who breaks which rule at the week's end, since when, and how often each
-rule was broken in it; last the command for a report on the first operator alone.
+rule was broken in it; last the command for a report on the first operator alone, into a folder that has none yet. It isn't the week that
+try.py shows.
 """
 
 import argparse
@@ -155,10 +156,19 @@ def tell(folder, command, operator):
         if it.violated:
             print(f"  {it.last['operator_name']}, \"{it.last['rule_name']}\": {it.violated} of {it.open}")
     print(f"with each day: {os.path.join(folder, 'report.html')}")
-    alone = os.path.join(folder, operator["token"])
-    print(f"{operator['name']} alone, into an empty folder, as a city reports one operator from its own (docs/REPORT.md):")
+    tell_alone(command, operator, os.path.join(folder, operator["token"]))
+
+
+def tell_alone(command, operator, folder):
+    """Prints the command for a report on an operator alone, into a folder that has no report yet, and which file to open then."""
+    alone, number = folder, 1
+    while any(os.path.exists(os.path.join(alone, it)) for it in FILES):
+        number += 1
+        alone = f"{folder}-{number}"
+    print(f"to make the report on {operator['name']} alone, paste (docs/REPORT.md says what the words mean):")
     print(f"  mkdir -p {shlex.quote(alone)}")
     print(f"  {shlex.join([*command, '--operator', operator['id'], '--out', alone])}")
+    print(f"then open {os.path.join(alone, 'report.html')}")
 
 
 def clear(folder):
@@ -180,8 +190,7 @@ def main():
     os.makedirs(city := os.path.join(options.folder, "city"), exist_ok=True)
     configuration = publish.document("city.json")
     first = configuration["operators"][0]
-    for it in (options.folder, os.path.join(options.folder, first["token"])):
-        clear(it)
+    clear(options.folder)
     reports = of_operators([it["id"] for it in configuration["operators"]])
     bytes_, count = journal(configuration, MONDAY, of_author(in_the_week), reports)
     with open(os.path.join(city, "journal"), "wb") as file:
