@@ -7,11 +7,15 @@ A city of 64 operators of 2,000 vehicles each, and one policy of 8 rules in forc
 time of an operator's GET /compliance, and of the author's GET /app/compliance; the author's is to take at most 64 times the operator's and
 5 ms. Then another operator's GET /compliance, ten in a hundred milliseconds, while nothing else is asked and while the author asks all the
 time: its 99th percentile beside the author is to be at most 1.5 times that of idle. Medians and 99th percentiles, in milliseconds.
+
+What of that is the machine's own: two processes that share nothing stand in for the server. One answers at once, the other computes as long
+as the author's question took and then answers as much; the first one is asked at the same pace, alone and while the second is asked.
 """
 
 import json
 import multiprocessing
 import os
+import socket
 import sys
 import time
 
@@ -105,6 +109,74 @@ def beside(server):
     return found, looks.value
 
 
+def stand_in(listener, seconds, size):
+    """Answers each byte of one connection with so many bytes, after so many seconds of computing."""
+    link, _ = listener.accept()
+    link.setsockopt(socket.IPPROTO_TCP, socket.TCP_NODELAY, 1)
+    with link:
+        while link.recv(1):
+            until = time.perf_counter() + seconds
+            while time.perf_counter() < until:
+                pass
+            link.sendall(bytes(size))
+
+
+class StandIn:
+    """A process that stands in for a server, and a connection to it."""
+
+    def __init__(self, seconds, size):
+        self.size = size
+        with socket.create_server(("127.0.0.1", 0)) as listener:
+            self.process = multiprocessing.Process(target=stand_in, args=(listener, seconds, size), daemon=True)
+            self.process.start()
+            self.link = socket.create_connection(listener.getsockname())
+        self.link.setsockopt(socket.IPPROTO_TCP, socket.TCP_NODELAY, 1)
+
+    def ask(self):
+        """Asks, and takes the whole answer."""
+        self.link.sendall(b"?")
+        left = self.size
+        while left:
+            left -= len(self.link.recv(left))
+
+    def close(self):
+        """Ends it."""
+        self.link.close()
+        self.process.join()
+
+
+def ask_stand_in(seconds, size, ended):
+    """Asks one that computes, all the time until it is over."""
+    one = StandIn(seconds, size)
+    while not ended.is_set():
+        one.ask()
+    one.close()
+
+
+def waits_of(one, count):
+    """The milliseconds of so many questions to a stand-in, at the pace of the measure, in order of length."""
+    found = []
+    for _ in range(count):
+        begun = time.perf_counter()
+        one.ask()
+        found.append(1_000 * (time.perf_counter() - begun))
+        time.sleep(PAUSE)
+    return sorted(found)
+
+
+def machine(own, author, size):
+    """The 99th percentiles of one that answers at once, alone and beside one that computes: the milliseconds that each computes are given."""
+    one, ended = StandIn(own / 1_000, 100), multiprocessing.Event()
+    alone = waits_of(one, int(SECONDS / PAUSE))
+    other = multiprocessing.Process(target=ask_stand_in, args=(author / 1_000, size, ended))
+    other.start()
+    together = waits_of(one, int(SECONDS / PAUSE))
+    ended.set()
+    other.join()
+    one.close()
+    return last_percent(alone), last_percent(together)
+
+
 def main():
     program = os.path.abspath(sys.argv[1] if len(sys.argv) > 1 else PROGRAM)
     with Alone(program, given=configuration()) as server, Link(server.port) as link:
@@ -124,6 +196,8 @@ def main():
     print(f"another operator's, idle: {median(idle):.3f} ms, 99th percentile {last_percent(idle):.3f}")
     ratio = last_percent(busy) / last_percent(idle)
     print(f"beside {looks} of the author's in {SECONDS} s: {median(busy):.3f} ms, 99th percentile {last_percent(busy):.3f}, {ratio:.2f} of idle")
+    alone, together = machine(0, median(all_of_them), size)
+    print(f"the machine's own: 99th percentile {alone:.3f} alone, {together:.3f} beside one that computes, {together / alone:.2f} of alone")
 
 
 if __name__ == "__main__":

@@ -468,7 +468,7 @@ def a_removed_lock_behind_a_thinning(sample, _):
 
 def links_are_refused(sample, _):
     """A link in the place of a file is followed by nobody, wherever it leads."""
-    for name in ("journal", "lock", "ballast"):
+    for name in ("journal", "lock", "ballast", "compactions"):
         for there in (sample.bytes, None):
             with sample.copy() as city:
                 target = os.path.join(city.room, "elsewhere")
@@ -489,7 +489,7 @@ def links_beside_are_kept(sample, _):
     with sample.copy(sample.bytes[:-5]) as city:
         target = os.path.join(city.room, "elsewhere")
         write(target, STRANGE)
-        for name in ("journal.cut", "journal.thinned"):
+        for name in ("journal.cut", "journal.thinned", "compactions.part"):
             os.symlink(target, place(city, name))
         status, err, _ = started(city)
         if status or read(place(city, "journal.cut.1")) != sample.bytes[records.read(sample.bytes[:-5]).whole : -5]:
@@ -510,8 +510,8 @@ def modes_are_the_owners(sample, _):
             city = City(sample.program, room, BOTH)
             with city.serve(umask=umask) as server:
                 server.end()
-            modes = {it: os.stat(place(city, it)).st_mode & 0o777 for it in (".", "journal", "lock", "ballast")}
-            if modes != {".": 0o700, "journal": 0o600, "lock": 0o600, "ballast": 0o600}:
+            modes = {it: os.stat(place(city, it)).st_mode & 0o777 for it in (".", "journal", "lock", "ballast", "compactions")}
+            if modes != {".": 0o700, "journal": 0o600, "lock": 0o600, "ballast": 0o600, "compactions": 0o600}:
                 yield f"under the umask {umask:o} the modes are { {name: oct(mode) for name, mode in modes.items()} }"
 
 

@@ -174,7 +174,7 @@ def is_checked(small):
     wanted = f"{len(SMALL) + 1} {COUNT}{len(small.bytes)} bytes, 0 behind them, whole\n".encode()
     if (found := small.city.check()) != (0, wanted, b""):
         yield f"check ends with {found}"
-    for name in ("journal", "lock", "ballast"):
+    for name in ("journal", "lock", "ballast", "compactions"):
         if (mode := os.stat(os.path.join(small.city.folder, name)).st_mode & 0o777) != 0o600:
             yield f"{name} has the mode {mode:o}"
 
@@ -288,6 +288,9 @@ def unknown_versions(small):
     }
     for said, others in cases.items():
         with small.copy(records.written(others)) as city:
+            # As in the folder of each city that was served: of one without the file, standard error says that the past isn't told.
+            with open(os.path.join(city.folder, "compactions"), "wb"):
+                pass
             wanted = DAMAGED + city.folder.encode() + b"\n" + said + b"\n"
             for status, _, err in (city.check(), city.refused()):
                 if (status, err) != (5, wanted):

@@ -145,9 +145,11 @@ def operations(description):
     for path, method, operation in description.operations():
         names.append(operation["operationId"])
         item = description.root["paths"][path]
-        given = {description.plain(it)["name"] for it in item.get("parameters", []) + operation.get("parameters", [])}
-        if given != set(re.findall(r"{(\w+)}", path)):
-            yield f"{method} {path}: its parameters are {sorted(given)}"
+        given = [description.plain(it) for it in item.get("parameters", []) + operation.get("parameters", [])]
+        if {it["name"] for it in given if it["in"] == "path"} != set(re.findall(r"{(\w+)}", path)):
+            yield f"{method} {path}: its parameters are {sorted(it['name'] for it in given)}"
+        if any(it["required"] for it in given if it["in"] != "path"):
+            yield f"{method} {path}: a parameter of its query is needed"
         if [list(it) for it in operation["security"]] != [["bearer"]]:
             yield f"{method} {path}: asks for no access token"
         if ("requestBody" in operation) != (method in ("PUT", "POST")):

@@ -9,11 +9,11 @@ proved one first, where no source is newer. Then come the scripts (replays.py), 
 ruffletuff on the messages that wait for no deadline and on the short loads (http.py), some kills (kills.py, contended.py), journals
 (journals.py, damages.py, thinning.py), reports on the past (report.py), the control port (control.py), configurations (config.py), many
 reports at once (many.py), also beside the changes of others (shares.py), each path by each method and client (routes.py), files that are
-imported (exchange.py), what people are told (app.py), how operators stand (oversight.py), what everyone is told (public.py), the counts
-in docs/audit/DEFINITIONS.md (definitions.py), the table of crates in docs/ARCHITECTURE.md (crates.py), links and lengths of all documents
-(documents.py), whether each edit can be made (mutations.py), nginx before a server (nginx.py), the page (page.py), in a browser too
-(web/run.py), a short stress (stress.py), some refused growths of memory (growths.py) and the check of docs/openapi.yaml (openapi.py). The
-other messages, and mds_serve, which serves by the same crates, are tried by `make prove` alone.
+imported (exchange.py), what people are told (app.py), how operators stand (oversight.py) and stood (past.py), what everyone is told
+(public.py), the counts in docs/audit/DEFINITIONS.md (definitions.py), the table of crates in docs/ARCHITECTURE.md (crates.py), links and
+lengths of all documents (documents.py), whether each edit can be made (mutations.py), nginx before a server (nginx.py), the page (page.py),
+in a browser too (web/run.py), a short stress (stress.py), some refused growths of memory (growths.py) and the check of docs/openapi.yaml
+(openapi.py). The other messages, and mds_serve, which serves by the same crates, are tried by `make prove` alone.
 
 What wants a package that isn't there, or the leave to mount a disk, is left out: the lines before the last name it, with the command that
 gets the packages; with GATE=1 it has failed (packages.py). What a part prints comes once the part is over, and of one that failed the last
@@ -47,6 +47,7 @@ CITIES = "2"  # whose questions are asked once and again
 SHARES = ("4", "--told")  # seconds of each load beside which others ask for changes
 DAY = ("--vehicles", "1", "--kills", "2")  # of a journal that is thinned
 REPORTED = ("--cities", "3")  # whose past is reported
+PAST = ("--cities", "2")  # whose past is asked for
 # The crates whose tests for out of memory bear a refused growth in their set-up too.
 SWEPT = ("tests_core", "tests_server", "tests_journal")
 SLOW = "8"  # how many times as long a part waits for a program that isn't proved
@@ -147,6 +148,8 @@ def parts(room):
     add("each path, and what refusals take", 1.5, kept, lambda: script("routes.py", keep, "--told", slow=slow["ruffletuff"]))
     add("what people are told", 0.3, kept, lambda: script("app.py", keep, slow=slow["ruffletuff"]))
     add("how operators stand", 0.3, kept, lambda: script("oversight.py", keep, slow=slow["ruffletuff"]))
+    past = ("past.py", keep, "--replay", replay, *PAST)
+    add("moments of the past", 1, kept + replayed, lambda: script(*past, slow=slowly))
     add("files and a server", 0.5, kept, lambda: script("exchange.py", keep, slow=slow["ruffletuff"]))
     add("the page", 0.2, kept, lambda: script("page.py", keep, slow=slow["ruffletuff"]))
     add("what everyone is told", 0.3, kept, lambda: script("public.py", keep, slow=slow["ruffletuff"]))

@@ -7,16 +7,15 @@ Journals of cities are made by chance over both nights on which New York's clock
 supersede others, are withdrawn, begin and end, two operators that report, repeat and remove, and a clock that goes back. Each sample of
 verdicts.csv is worked out here another way: into the script that `ruffletuff audit` prints a question for compliance is put at each
 moment, mds_replay answers, and the answer is read by Python. summary.csv is worked out a second time from verdicts.csv, and local times
-from the two nights. The marks of report.html are worked out by the clock from verdicts.csv. A thinned journal with the one before it says
-the same as the whole one. Names that a spreadsheet or a browser would take for more than names, operators that are many, journals that are
-refused, and reports that aren't written whole are tried too. Prints what differs, and last 'N passed, M failed'; ends with 1 where one
-failed.
+from the two nights. The marks of report.html, by how much and since when a rule is violated, and the order of rules are worked out from
+verdicts.csv and the documents. A thinned journal with the one before it says the same as the whole one. Names that a spreadsheet or a
+browser would take for more than names, operators that are many, journals that are refused, and reports that aren't written whole are tried
+too. Prints what differs, and last 'N passed, M failed'; ends with 1 where one failed.
 """
 
 import argparse
 import collections
 import csv
-import html.parser
 import io
 import itertools
 import json
@@ -29,11 +28,13 @@ import signal
 import subprocess
 import sys
 import tempfile
-from datetime import datetime, timedelta, timezone
+import time
+from datetime import datetime, timezone
 
 import records
 from journals import REPLAY
 from kept import City, Tried, ended, replayed, split
+from report_page import DAY_LINE, MARK, OPEN, RULE, Page, bounds_of, marks_of, minutes_are_told, page_faults, since_of, worst_of
 from wire import Closed, identifier
 
 AUTHOR, ALFA, BRAVO = "city", "alfa", "bravo"
@@ -50,11 +51,12 @@ STEPS, DEVICES = 90, 4
 TYPES, STATES = ("scooter", "bicycle"), ("available", "on_trip", "reserved", "non_operational")
 NAMES = ("verdicts.csv", "summary.csv", "report.html")
 COLUMNS = (
-    "moment,local,operator_id,operator_name,policy_id,policy_name,rule_number,rule_id,rule_name,status,measure,minimum,maximum".split(",")
+    "moment,local,operator_id,operator_name,policy_id,policy_name,rule_number,rule_id,rule_name,status,measure,minimum,maximum,"
+    "units".split(",")
 )
 SUMMED = (
     "operator_id,operator_name,policy_id,policy_name,rule_number,rule_id,rule_name,day,samples,violated,longest,longest_first,"
-    "longest_last,first_violated,last_violated,greatest_measure".split(",")
+    "longest_last,first_violated,last_violated,greatest_measure,least_measure".split(",")
 )
 # Names that a spreadsheet, a browser or a reader of lines may take for more than that.
 HOSTILE = (
@@ -74,6 +76,8 @@ HOSTILE = (
     "ordinary",
     "",
 )
+COUNTS = re.compile(rb"\d+ operators?, \d+ moments?, \d+ rows? in verdicts\.csv\n")
+MADE = re.compile(rb"(<tr><th>Made</th><td>)([^<]*)(</td></tr>\n)")
 DAMAGED = "ruffletuff: the journal is damaged, or of another version: "
 UNFIT = "ruffletuff: the configuration doesn't fit the journal: "
 
@@ -110,6 +114,9 @@ class Chance:
         if pick.random() < 0.3:
             rule["minimum"] = pick.randrange(1, 3)
             rule["maximum"] = max(rule["maximum"], rule["minimum"])
+        for bound in ("minimum", "maximum"):
+            if bound in rule and pick.random() < 0.2:
+                rule[f"inclusive_{bound}"] = False
         if pick.random() < 0.3:
             rule["vehicle_types"] = [pick.choice(TYPES)]
         if pick.random() < 0.4:
@@ -188,6 +195,14 @@ def payloads(lines):
     return [records.head([(it, 64) for it in IDS.values()]), *map(entry, lines)]
 
 
+def timeless(files):
+    """Files of a report but for when it was made, which is another moment each time."""
+    page, count = MADE.subn(rb"\1\3", files["report.html"])
+    if count != 1:
+        raise ValueError(f"the page says {count} times when it was made")
+    return files | {"report.html": page}
+
+
 class Journal(City):
     """A city's folder, with a journal of these payloads. The report is written beside it."""
 
@@ -218,14 +233,14 @@ class Journal(City):
     def reported(self, *words, **how):
         """The files of a report that is to be written, which are taken away."""
         status, out, err = self.report(*words, **how)
-        if status or not out.endswith(b" samples\n") or not all(it.startswith(b"ruffletuff: ") for it in err.splitlines()):
+        if status or not COUNTS.fullmatch(out) or not all(it.startswith(b"ruffletuff: ") for it in err.splitlines()):
             raise ValueError(f"report ends with {status, out, err}")
         found = self.files()
         if sorted(found) != sorted(NAMES):
             raise ValueError(f"the report has the files {sorted(found)}")
         for name in found:
             os.remove(os.path.join(self.out, name))
-        return found
+        return timeless(found)
 
 
 def accepted(replay, given, asked):
@@ -307,8 +322,9 @@ def wanted_rows(found, documents, names):
             document = documents[policy]
             text = document["rules"][number]
             bounds = [str(text.get(it, "")) for it in ("minimum", "maximum")]
+            units = "" if text["rule_type"] == "count" else text.get("rule_units", "")
             front = [moment_text(at), local_text(at), IDS[token], cell(name), policy, cell(document["name"])]
-            yield [*front, str(number), rule, cell(text["name"]), status, str(measure), *bounds]
+            yield [*front, str(number), rule, cell(text["name"]), status, str(measure), *bounds, units]
 
 
 def rows_of(bytes_, columns):
@@ -340,7 +356,9 @@ def summed(rows):
         longest = [it["local"] for it in longest_run(them)]
         ends = [longest[0], longest[-1], violated[0], violated[-1]] if violated else [""] * 4
         front = [them[0][it] for it in SUMMED[:7]]
-        yield [*front, day, str(len(them)), str(len(violated)), str(len(longest)), *ends, str(max(int(it["measure"]) for it in them))]
+        most = max(int(it["measure"]) for it in them)
+        least = [str(min(int(it["measure"]) for it in them if it["status"] in OPEN))] if any(it["status"] in OPEN for it in them) else [""]
+        yield [*front, day, str(len(them)), str(len(violated)), str(len(longest)), *ends, str(most), *least]
 
 
 def differing(what, found, wanted):
@@ -444,30 +462,15 @@ def is_the_same_again(made):
         yield f"it changes the folder, which has {os.listdir(made.city.folder)}"
 
 
-DAY_LINE = re.compile(r"<tr><th>(\d{4}-\d\d-\d\d)</th><td><svg[^>]*>(.*?)</svg></td>", re.S)
-MARK = re.compile(r'<rect class="(\w+)"[^>]* x="(\d+)" width="(\d+)"/>')
-DRAWN = {"violated": "violated", "ok": "kept"}
-
-
-def minute_of(local):
-    """The minute that the clock shows in a local text."""
-    return 60 * int(local[11:13]) + int(local[14:16])
-
-
-def marks_of(rows):
-    """The marks of a rule's day, by its rows: of which class, where each begins, and how long it is, by the clock."""
-    for drawn, alike in itertools.groupby(rows, lambda row: DRAWN.get(row[9], "closed")):
-        first, *_, last = [*(both := list(alike)), both[-1]]
-        begin = minute_of(first[1])
-        yield drawn, begin, max(1, minute_of(last[1]) + EVERY - begin)
-
-
 def marks_follow_the_clock(made):
     """Each mark of a day in report.html begins and ends where the clock says, also behind a change of the clocks."""
     days = collections.defaultdict(list)
     for row in rows_of(made.whole["verdicts.csv"], COLUMNS):
         days[row[2], row[4], row[6], row[1][:10]].append(row)
-    wanted = collections.Counter((day, tuple(marks_of(rows))) for (*_, day), rows in days.items())
+    wanted = collections.Counter()
+    for (*_, day), rows in days.items():
+        wanted[day, marks := marks_of(rows, EVERY)] += 1
+        yield from minutes_are_told(day, rows, marks, EVERY)
     lines = DAY_LINE.findall(made.whole["report.html"].decode())
     found = collections.Counter((day, tuple((it, int(x), int(width)) for it, x, width in MARK.findall(text))) for day, text in lines)
     for line_ in found - wanted:
@@ -476,50 +479,56 @@ def marks_follow_the_clock(made):
         yield f"a day isn't drawn: {line_}"
 
 
+def rules_are_told(made):
+    """The page tells of each operator the rules, the one that is violated most often first, by how much each is violated, and since when."""
+    _, *sections = made.whole["report.html"].decode().split("<section>\n")
+    rules = collections.defaultdict(list)
+    for row in rows_of(made.whole["verdicts.csv"], COLUMNS):
+        rules[row[2], row[4], int(row[6])].append(row)
+    ends = [moment_text(made.moments[it]) for it in (0, -1)]
+    for section, token in zip(sections, (ALFA, BRAVO), strict=True):
+        wanted = []
+        for (whose, policy, number), rows in sorted(rules.items()):
+            if whose == IDS[token]:
+                rule, violated = made.documents[policy]["rules"][number], [int(row[10]) for row in rows if row[9] == "violated"]
+                told = f"Violated in {len(violated)} of {len(rows)} samples.{''.join(worst_of(rule, violated))}"
+                wanted.append((len(violated), (rows[0][7], policy, str(number), bounds_of(rule), told, since_of(rows, *ends))))
+        wanted = [it for _, it in sorted(wanted, key=lambda it: -it[0])]
+        yield from differing(f"{token} on the page", RULE.findall(section), wanted)
+
+
+HEAD_ROW = re.compile(r"<tr><th>([^<]*)</th><td>([^<]*)</td></tr>\n")
+
+
+def heads_are_told(program, replay):
+    """The page begins with the city's title, if it has one, its zone, the first and last moment, how far samples are apart, and when and by
+    which program it was made."""
+    with tempfile.TemporaryDirectory(prefix="report-") as room:
+        for number, (page, zone) in enumerate((({"page": {"title": "River & City"}}, "America/New_York"), ({}, NEW_YORK), ({"page": 1}, "Z"))):
+            if "/" in zone and not os.path.exists(os.path.join("/usr/share/zoneinfo", zone)):
+                continue
+            given = configuration() | page | {"zone": zone}
+            os.mkdir(here := os.path.join(room, str(number)))
+            city = Journal(program, here, given, payloads(accepted(replay, configuration(), hostile_city(("cap", "rule")))))
+            begun = time.time()
+            status, out, err = city.report(SUMMER, SUMMER + HOUR, "--every", "25", "--operator", ALFA_ID)
+            text = city.files()["report.html"].decode()
+            if (status, out) != (0, b"1 operator, 3 moments, 3 rows in verdicts.csv\n"):
+                yield f"report ends with {status, out, err}"
+            found = dict(HEAD_ROW.findall(text.partition("<section>")[0]))
+            made = datetime.fromisoformat(found.pop("Made")).timestamp()
+            if not begun - 1 < made < time.time() + 1:
+                yield f"it was made at {made}, and not at {begun}"
+            version = ended(program, "--version")[1].decode().strip()
+            first, last = (it if zone != "Z" else moment_text(at).replace("Z", "+00:00") for at, it in
+                           ((at, local_text(at)) for at in (SUMMER, SUMMER + 50 * MINUTE)))
+            wanted = {"First sample": first, "Last sample": last, "Sampled every": "25 minutes", "By": version}
+            wanted["Time zone"] = f"{zone} (EST5EDT,M3.2.0,M11.1.0)" if "/" in zone else zone
+            if found != wanted | ({"City": "River &amp; City"} if number == 0 else {}):
+                yield f"the page begins with {found}, and not with {wanted}"
+
+
 # --- Names ---------------------------------------------------------------------------------------------------------
-
-
-class Page(html.parser.HTMLParser):
-    """What is in a page: its elements with their attributes, whether they are closed in order, and its text."""
-
-    VOID = ("meta", "link", "br", "hr", "img", "input", "col")
-
-    def __init__(self, text):
-        super().__init__(convert_charrefs=True)
-        self.open, self.elements, self.texts, self.faults = [], [], [], []
-        self.feed(text)
-        self.close()
-        if self.open:
-            self.faults.append(f"{self.open} are open at the end")
-
-    def handle_starttag(self, tag, attrs):
-        self.elements.append((tag, dict(attrs)))
-        if tag not in self.VOID:
-            self.open.append(tag)
-
-    def handle_startendtag(self, tag, attrs):
-        self.elements.append((tag, dict(attrs)))
-
-    def handle_endtag(self, tag):
-        if not self.open or self.open.pop() != tag:
-            self.faults.append(f"</{tag}> closes another")
-
-    def handle_data(self, data):
-        self.texts.append(data)
-
-
-def page_faults(text):
-    """What a page mustn't have: scripts, what runs by an event, what is fetched from elsewhere, elements that aren't closed."""
-    page = Page(text)
-    yield from page.faults
-    for tag, attributes in page.elements:
-        if tag in ("script", "img", "link", "iframe", "object", "embed", "form", "base", "foreignobject"):
-            yield f"the page has an element {tag}"
-        for name, value in attributes.items():
-            if name.startswith("on") or "javascript:" in (value or "") or (name in ("href", "src") and not value.startswith("#")):
-                yield f"the page has {tag} with {name}={value!r}"
-    if "http" in text.replace("http://www.w3.org/", ""):
-        yield "the page names an address"
 
 
 def hostile_city(names):
@@ -582,7 +591,12 @@ def arguments_are_refused(program, replay):
         yield from is_refused(city, 2, f"{none}2026-02-30\n", times=(SUMMER, "2026-02-30"))
         yield from is_refused(city, 2, f"ruffletuff: the moment of --to isn't later than that of --from: {SUMMER}\n", times=(SUMMER, SUMMER))
         said = f"ruffletuff: the operator isn't in the configuration: {city.file}\noperator {FURTHER_ID} isn't in it\n"
-        yield from is_refused(city, 2, said, "--operator", FURTHER_ID)
+        known = f'operators in {city.file}:\n{ALFA_ID} "Alfa"\n{BRAVO_ID} "Bravo"\n'
+        yield from is_refused(city, 2, said + known, "--operator", FURTHER_ID)
+        found = city.report(SUMMER, SUMMER + HOUR, "--operator", "Alfa")
+        said = f"--operator takes an operator's id, not its name: Alfa\n{known}"
+        if found[:2] != (2, b"") or not found[2].decode().endswith(f" (ruffletuff --help says more)\n{said}"):
+            yield f"of an operator's name report says {found}"
         for words in (("--operator", "alfa"), ("--every", "0"), ("--every", "1441"), ("--every", "x"), ("--out", "again"), ("--until", "1")):
             yield from is_refused(city, 2, "ruffletuff: the arguments are wrong\nusage: ruffletuff report FOLDER.. --config FILE ", *words)
         city.configure(b"{}")
@@ -713,9 +727,9 @@ def operators_stand_in_order(program, replay):
         hour = SUMMER, SUMMER + HOUR, "--every", str(EVERY)
         told = [f"ruffletuff: {it} of {city.OPERATORS} operators are through\n" for it in range(1, city.OPERATORS + 1)]
         status, out, err = city.report(*hour)
-        if (status, out, err.decode()) != (0, b"9 operators, 2 moments, 18 samples\n", "".join(told)):
+        if (status, out, err.decode()) != (0, b"9 operators, 2 moments, 18 rows in verdicts.csv\n", "".join(told)):
             yield f"report ends with {status, out, err}"
-        files = city.files()
+        files = timeless(city.files())
         found = [(it[2], it[3], it[9], it[10]) for it in rows_of(files["verdicts.csv"], COLUMNS)]
         wanted = [(whose, f"No. {it}", "violated" if it else "ok", str(it)) for it, whose in enumerate(city.ids) for _ in range(2)]
         yield from differing("verdicts.csv", found, wanted)
@@ -742,8 +756,10 @@ OF_A_CITY = (
     of_thinned_journals,
     is_the_same_again,
     marks_follow_the_clock,
+    rules_are_told,
 )
 FURTHER = (
+    heads_are_told,
     hostile_names,
     operators_stand_in_order,
     arguments_are_refused,

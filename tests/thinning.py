@@ -5,8 +5,8 @@
 
 A city is run: three operators report, remove and report again, while its author publishes, supersedes, withdraws and keeps drafts. Which
 entries stay of its journal is worked out here a second time, from what is said in docs/OPERATIONS.md. A server of the thinned journal is
-compared with one of the journal before, over HTTP in all that is asked for, and by mds_replay at the same moments. Then come configurations,
-folders and journals that are refused, a disk without room, a file that can't grow, and a journal of a day's reports, made by
+compared with one of the journal before, over HTTP in all that is asked for, and by mds_replay at the same moments. What is recorded of
+each thinning in the file compactions is worked out here too. Then come configurations, folders and journals that are refused, a disk without room, a file that can't grow, and a journal of a day's reports, made by
 tests/records.py, whose thinning is killed at several moments. Then the journal is thinned while its city is served, under load, with
 kills, on a disk that fills up, and where it can't be. A full disk is a file system in memory; where none may be mounted that test is left
 out (packages.py). Prints what differs, and last 'N passed, M failed'; ends with 1 where one failed.
@@ -50,6 +50,7 @@ TARGETS = (
 LINE = re.compile(r"(\d+) records, (\d+) bytes before; (\d+) records, (\d+) bytes now\n")
 
 CLEARED = "journal.thinned"
+RECORDED, RECORDING = "compactions", "compactions.part"
 NOT_WRITTEN = b"ruffletuff: the thinned journal couldn't be written: "
 UNUSABLE = b"ruffletuff: the folder can't be used: "
 DISK = 12 << 20  # bytes of a small disk
@@ -156,6 +157,27 @@ def folder_of(folder):
     return found
 
 
+def recorded(city):
+    """What is recorded of the thinnings of a city's journal."""
+    with open(os.path.join(city.folder, RECORDED), "rb") as file:
+        return file.read().decode()
+
+
+def record(city, text):
+    """Puts a text in the place of what is recorded, or nothing."""
+    path = os.path.join(city.folder, RECORDED)
+    with contextlib.suppress(FileNotFoundError):
+        os.remove(path)
+    if text is not None:
+        with open(path, "wb") as file:
+            file.write(text.encode())
+
+
+def line_for(lines, name="-"):
+    """What is recorded of the thinning of a journal of these lines: the latest moment, and the name of the archived one."""
+    return f"{max(split(it)[0] for it in lines)} {name}\n"
+
+
 def thin(city, *words, file=None, **how):
     return ended(city.program, "thin", city.folder, "--config", file or city.file, *words, **how)
 
@@ -222,13 +244,16 @@ def is_thinned(run):
         if not len(run.kept) < len(run.lines) or not len(city.bytes()) < len(run.bytes):
             yield "it isn't shorter"
         once = folder_of(city.folder)
-        if records.read(once["journal"]).ending != "whole" or sorted(once) != ["ballast", "journal", "lock"]:
+        if records.read(once["journal"]).ending != "whole" or sorted(once) != ["ballast", RECORDED, "journal", "lock"]:
             yield f"its folder has {sorted(once)}"
+        if (found := recorded(city)) != (first := line_for(run.lines)):
+            yield f"{found!r} is recorded, and not {first!r}"
         if (mode := os.stat(city.journal).st_mode & 0o777) != 0o600:
             yield f"the journal has the mode {mode:o}"
         again = f"{wanted[2]} records, {wanted[3]} bytes before; {wanted[2]} records, {wanted[3]} bytes now\n".encode()
-        if (found := thin(city)) != (0, again, b"") or folder_of(city.folder) != once:
-            yield f"a second time ends with {found}"
+        twice = once | {RECORDED: (first + line_for(run.kept)).encode()}
+        if (found := thin(city)) != (0, again, b"") or folder_of(city.folder) != twice:
+            yield f"a second time ends with {found}, and {recorded(city)!r} is recorded"
 
 
 def answers_as_before(run):
@@ -452,7 +477,9 @@ def a_day(run):
         found = LINE.fullmatch(out.decode())
         if (status, err) != (0, b"") or not found or int(found[1]) != count or int(found[3]) > 5 + BOUND * run.vehicles:
             yield f"a day's journal: thin ends with {status, out, err}"
-        shorter = city.bytes()
+        shorter, told = city.bytes(), recorded(city)
+        if told != f"{BEGUN + (DAY - 1) * MINUTE + 1} -\n":
+            yield f"of a day's journal {told!r} is recorded"
         print(f"{run.vehicles} vehicles each minute of a day, in {took:.1f} s: {out.decode()}", end="")
         with city.serve() as server:
             wanted = answers(server, (AUTHOR, ALFA))
@@ -467,6 +494,8 @@ def a_day(run):
             ends.append((is_killed, is_thinned))
             if not is_thinned and city.bytes() != journal or not is_killed and not is_thinned:
                 yield f"kill {kill}: another journal stands there"
+            if (found := recorded(city)) != told and (found or is_thinned):
+                yield f"kill {kill}: {found!r} is recorded"
             with city.serve() as server:
                 if answers(server, (AUTHOR, ALFA)) != wanted:
                     yield f"kill {kill}: other things are told"
@@ -527,14 +556,17 @@ def is_archived(run):
         shorter, wanted = city.bytes(), {name: run.bytes}
         if folder_of(archive) != wanted:
             yield f"the archive has {sorted(os.listdir(archive))}"
+        if (found := recorded(city)) != (told := line_for(run.lines, name)):
+            yield f"{found!r} is recorded, and not {told!r}"
         if lines_of(city, os.path.join(archive, name)) != run.lines:
             yield "the archived journal has other lines"
         if city.audit() != (run.first, run.kept):
             yield "other lines stay"
         wanted |= {f"{name}.1": shorter}
         for _ in range(2):
-            if (found := thin(city, "--archive", archive))[0] or folder_of(archive) != wanted:
-                yield f"once more it ends with {found}, and the archive has {sorted(os.listdir(archive))}"
+            told += line_for(run.kept, f"{name}.1")
+            if (found := thin(city, "--archive", archive))[0] or folder_of(archive) != wanted or recorded(city) != told:
+                yield f"once more it ends with {found}, and the archive has {sorted(os.listdir(archive))} and {recorded(city)!r} is recorded"
         yield from archive_faults(city, archive)
 
 
@@ -600,8 +632,10 @@ def killed_while_archived(run):
     seen = []
 
     def steps(city, archive, name, took):
-        for path in (os.path.join(city.folder, CLEARED), os.path.join(archive, PART), os.path.join(archive, name)):
+        paths = (os.path.join(city.folder, CLEARED), os.path.join(archive, PART), os.path.join(archive, name))
+        for path in (*paths, os.path.join(city.folder, RECORDING)):
             yield lambda path=path: seen.append(killed_at(city, archive, lambda: os.path.exists(path)))
+        yield lambda: seen.append(killed_at(city, archive, lambda: recorded(city)))
         for kill in range(run.kills):
             yield lambda kill=kill: killed(city, took * (0.5 + 0.6 * kill / run.kills), "--archive", archive)
 
@@ -611,22 +645,111 @@ def killed_while_archived(run):
             yield f"thin ends with {found}"
         took, shorter, wanted = time.monotonic() - begun, city.bytes(), folder_of(archive)
         (name,) = wanted
+        told = f"{BEGUN + (DAY // 12 - 1) * MINUTE + 1} {name}\n"
+        if (found := recorded(city)) != told:
+            yield f"{found!r} is recorded, and not {told!r}"
         for number, step in enumerate(steps(city, archive, name, took)):
             with open(city.journal, "wb") as file:
                 file.write(journal)
             shutil.rmtree(archive)
             os.makedirs(archive)
+            record(city, "")
             step()
             found = {it: text for it, text in folder_of(archive).items() if it != PART}
             is_thinned = city.bytes() == shorter
             if found not in ({}, wanted) or not is_thinned and city.bytes() != journal or is_thinned and found != wanted:
                 yield f"kill {number}: the archive has {sorted(found)}, and the journal is {'thinned' if is_thinned else 'not thinned'}"
+            if (begun := recorded(city)) != told and (begun or is_thinned) or begun and found != wanted:
+                yield f"kill {number}: {begun!r} is recorded, and the archive has {sorted(found)}"
             if thin(city, "--archive", archive)[0] or city.bytes() != shorter:
                 yield f"kill {number}: then it isn't thinned"
             last = wanted | ({f"{name}.1": shorter} if is_thinned else {})
             if folder_of(archive) != last:
                 yield f"kill {number}: then the archive has {sorted(os.listdir(archive))}"
-    print(f"of 3 steps of an archived journal {sum(seen)} were seen before a kill")
+            if (found := recorded(city)) != begun + (told.replace(name, f"{name}.1") if is_thinned else told):
+                yield f"kill {number}: then {found!r} is recorded"
+    print(f"of 5 steps of an archived journal {sum(seen)} were seen before a kill")
+
+
+# --- What is recorded ----------------------------------------------------------------------------------------------
+
+DAMAGED_RECORD = (
+    b"ruffletuff: the file compactions is damaged, and kept as compactions.damaged: "
+    b"what stood before the journal's latest entry isn't told any more\n"
+)
+
+
+def served(city):
+    """What standard error says of a server that starts and is stopped."""
+    with city.serve() as server:
+        status, out, said = server.end()
+    if (status, out) != (0, b""):
+        raise ValueError(f"the server ends with {status, out, said}")
+    return said
+
+
+def folders_of_earlier_versions(run):
+    """Of a journal that came without the file it isn't known what was dropped up to its latest entry: a start says so, and a thinning. What
+    is there then stays."""
+    first = line_for(run.lines)
+    with run.copy() as city:
+        record(city, None)
+        for _ in range(2):
+            if (said := served(city)) or recorded(city) != first:
+                yield f"a start says {said}, and {recorded(city)!r} is recorded"
+    for name, words in (("-", ()), (name_of(run.lines), ("--archive",))):
+        with run.copy() as city:
+            record(city, None)
+            found = thin(city, *words, *(archive_of(city) for _ in words))
+            if found[::2] != (0, b"") or recorded(city) != first + line_for(run.lines, name):
+                yield f"thin ends with {found}, and {recorded(city)!r} is recorded"
+
+
+def damaged_records(run):
+    """A file that has no such lines is kept, and said, and another begins as where there was none."""
+    first = line_for(run.lines)
+    for text in ("\n", "2002 -", "x -\n", "1 journal-1/2\n", "01 -\n"):
+        with run.copy() as city:
+            record(city, text)
+            if (said := served(city)) != DAMAGED_RECORD or recorded(city) != first:
+                yield f"{text!r}: a start says {said}, and {recorded(city)!r} is recorded"
+            if (found := folder_of(city.folder)["compactions.damaged"]) != text.encode():
+                yield f"{text!r}: {found} is kept"
+    with run.copy() as city:
+        record(city, "x -\n")
+        if (found := thin(city))[::2] != (0, DAMAGED_RECORD) or recorded(city) != 2 * first:
+            yield f"thin ends with {found}, and {recorded(city)!r} is recorded"
+
+
+def new_cities_have_no_record(run):
+    """Nothing is recorded of a new city, its owner alone may read that, and its journal without entries is thinned to itself."""
+    with tempfile.TemporaryDirectory(prefix="thinning-") as room:
+        city = City(run.program, room, GIVEN)
+        if (said := served(city)) or recorded(city):
+            yield f"a start says {said}, and {recorded(city)!r} is recorded"
+        if (mode := os.stat(os.path.join(city.folder, RECORDED)).st_mode & 0o777) != 0o600:
+            yield f"{RECORDED} has the mode {mode:o}"
+        if (found := thin(city))[::2] != (0, b"") or recorded(city):
+            yield f"thin ends with {found}, and {recorded(city)!r} is recorded"
+
+
+def thinnings_that_can_not_be_recorded(run):
+    """Where a thinning can't be recorded the journal isn't thinned. No link is followed in the file's place."""
+    with run.copy() as city:
+        os.makedirs(os.path.join(city.folder, RECORDING, "full"))
+        if (found := thin(city)) != (7, b"", NOT_WRITTEN + city.folder.encode() + b"\n"):
+            yield f"thin ends with {found}"
+        if city.bytes() != run.bytes or recorded(city) or CLEARED in os.listdir(city.folder):
+            yield f"{recorded(city)!r} is recorded in {os.listdir(city.folder)}"
+    with run.copy() as city:
+        record(city, None)
+        os.symlink(city.file, os.path.join(city.folder, RECORDED))
+        said = b"ruffletuff: a file of the folder is a link, or none: " + city.folder.encode() + b"\n"
+        for found in (thin(city), city.refused()):
+            if found != (4, b"", said):
+                yield f"by a link it ends with {found}"
+        if city.bytes() != run.bytes:
+            yield "by a link the journal is thinned"
 
 
 # --- While the city is served --------------------------------------------------------------------------------------
@@ -725,6 +848,24 @@ def told_alike(city, wanted, tokens=(AUTHOR, ALFA, BRAVO, CAROL)):
             yield f"the server ends with {ended_}"
 
 
+def record_faults(city, times, archive=None):
+    """What of the record of so many thinnings isn't so: a line for each at least, with no earlier moment than the one before, as long as the
+    clock goes on; without an archive no names, and else the moment is the latest of the archived journal."""
+    found = [re.fullmatch(r"(\d+) (\S+)", line) for line in recorded(city).splitlines()]
+    moments = [int(it[1]) for it in found if it]
+    if not all(found) or len(found) < times or sorted(moments) != moments:
+        yield f"of {times} thinnings {recorded(city)!r} is recorded"
+        return
+    for it in found:
+        if archive is None:
+            is_right = it[2] == "-"
+        else:
+            lines = lines_of(city, os.path.join(archive, it[2]))
+            is_right = f"{it[0]}\n" == line_for(lines, it[2])
+        if not is_right:
+            yield f"{it[0]!r} is recorded"
+
+
 def is_thinned_while_served(run):
     """Under load the journal is thinned again and again, and stays short; nothing that was told is lost, and each answer stays."""
     with tempfile.TemporaryDirectory(prefix="thinning-") as room:
@@ -749,6 +890,7 @@ def is_thinned_while_served(run):
             yield f"it ends with {status, out, said}"
         if CLEARED in os.listdir(city.folder):
             yield "something is left beside the journal"
+        yield from record_faults(city, times)
         yield from told_alike(city, wanted)
         first, lines = city.audit()
         refused = [it for it in replayed(run.replay, first, lines) if not it.startswith("200 ")]
@@ -784,21 +926,25 @@ def killed_while_thinned(run):
 
 
 def cannot_be_thinned_while_served(run):
-    """Where the shorter journal can't be written, or the configuration doesn't fit, that is said; the city is served on all the same."""
-    with tempfile.TemporaryDirectory(prefix="thinning-") as room:
-        city, asking = city_of(run.program, room), [Reporter(ALFA, 10)]
-        os.makedirs(os.path.join(city.folder, CLEARED, "full"))
-        with city.serve("--thin-at", str(SMALL)) as server:
-            with loaded(server, asking):
-                until = time.monotonic() + 60 * PATIENCE
-                while asking[0].count < 500 and time.monotonic() < until:
-                    time.sleep(0.1)
-            yield from asking[0].faults(server)
-            wanted = answers(server)
-            status, out, said = server.end()
-        if (status, out) != (0, b"") or not said or said.replace(NOT_THINNED + b"the thinned journal can't be written\n", b""):
-            yield f"it ends with {status, out, said}"
-        yield from told_alike(city, wanted)
+    """Where the shorter journal can't be written, or its thinning can't be recorded, that is said, and the city is served on all the
+    same."""
+    for name in (CLEARED, RECORDING):
+        with tempfile.TemporaryDirectory(prefix="thinning-") as room:
+            city, asking = city_of(run.program, room), [Reporter(ALFA, 10)]
+            os.makedirs(os.path.join(city.folder, name, "full"))
+            with city.serve("--thin-at", str(SMALL)) as server:
+                with loaded(server, asking):
+                    until = time.monotonic() + 60 * PATIENCE
+                    while asking[0].count < 500 and time.monotonic() < until:
+                        time.sleep(0.1)
+                yield from asking[0].faults(server)
+                wanted = answers(server)
+                status, out, said = server.end()
+            if (status, out) != (0, b"") or not said or said.replace(NOT_THINNED + b"the thinned journal can't be written\n", b""):
+                yield f"{name}: it ends with {status, out, said}"
+            if recorded(city):
+                yield f"{name}: {recorded(city)!r} is recorded"
+            yield from told_alike(city, wanted)
 
 
 def a_disk_that_fills_up_while_served(run):
@@ -878,6 +1024,7 @@ def is_archived_while_served(run):
         with contextlib.suppress(FileNotFoundError):
             os.remove(os.path.join(archive, PART))
         yield from archive_faults(city, archive)
+        yield from record_faults(city, times, archive)
         accepted = set().union(*(it.accepted for it in asking))
         if lacking := accepted - reports_in(city, archive):
             yield f"{len(lacking)} of {len(accepted)} accepted reports are nowhere: {sorted(lacking)[:3]}"
@@ -934,6 +1081,10 @@ CASES = (
     an_archive_that_can_not_be_written,
     a_full_archive,
     killed_while_archived,
+    folders_of_earlier_versions,
+    damaged_records,
+    new_cities_have_no_record,
+    thinnings_that_can_not_be_recorded,
     is_thinned_while_served,
     killed_while_thinned,
     cannot_be_thinned_while_served,

@@ -6,16 +6,21 @@ import { inWhole, within } from "./geometry.js";
 import * as layers from "./layers.js";
 import { deviceOf, draw, fit, reveal, rowOf, showDevice } from "./map.js";
 import * as rules from "./rules.js";
-import { isAuthor, isEveryone, isOver, now, operatorName, oversight, placeName, shownFleet, standingOf, state } from "./state.js";
+import { isAuthor, isEveryone, isOver, now, operatorName, oversight, placeName, serverVerdicts, shownFleet, shownPast,
+  shownStandings, standingOf, state } from "./state.js";
 
 const { digitsOf, isSame, number, plain, words } = rules;
-const TAGS = { ok: ["good", "✓ kept"], violated: ["bad", "✗ broken"], inactive: ["", "– not open now"],
-  not_evaluated: ["", "not judged"] };
+const TAGS = { ok: ["good", "✓ kept"], violated: ["bad", "✗ broken"], not_evaluated: ["", "not judged"] };
 const TONES = { force: "good", soon: "soon", over: "" };
 const TOLD = 100, LONG = 400, ROUNDS_MISSED = 3, LEAST_MISSED = 60_000, FIRST_ROWS = 25, FIRST_ROWS_NARROW = 8, MORE_ROWS = 200;
 
-/** What the author does with a policy; page.js sets it. */
-export const actions = { replace: null, withdraw: null };
+/** What the author does with a policy, and what asks the server; page.js sets it. */
+export const actions = { replace: null, withdraw: null, askSince: null, narrow: null, askAgain: null };
+
+/** What stands beside what has a status, now or then. */
+function standingTag(status, when = state.moment === null ? "now" : "then") {
+  return status === "inactive" ? ["", `– not open ${when}`] : TAGS[status] || ["", plain(status)];
+}
 
 const one = (count, what) => `${number(count)} ${what}${count === 1 ? "" : "s"}`;
 
@@ -25,12 +30,16 @@ let rows = [], tallies = new Map();
 // --- Verdicts -----------------------------------------------------------------------------------------------------------
 
 /** What the page works out by itself, null where it has no fleet of that moment. */
-export const workOut = (policy, t) => (shownFleet() ? rules.workOut(policy, t, state) : null);
+export function workOut(policy, t) {
+  const { places, clock } = state, fleet = shownFleet();
+  return fleet && rules.workOut(policy, t, { fleet, places, clock });
+}
 
-/** The verdict of each rule of a policy in force for an operator: the server's for now, the page's own for a moment to come. */
+/** The verdict of each rule of a policy in force for an operator: the server's, the page's own for a moment to come. */
 function verdictsOf(policy) {
   if (isAuthor() || isEveryone()) return null;
-  const told = state.moment === null ? state.reports.get(digitsOf(policy.policy_id)) : null;
+  const reports = state.moment === null ? state.reports : shownPast()?.reports;
+  const told = reports?.get(digitsOf(policy.policy_id));
   if (told) return told.map((it) => ({ ...it, devices: it.devices || [], isOwn: false }));
   const worked = workOut(policy, now());
   return worked?.map(({ status, measure, rows }) => {
@@ -41,9 +50,9 @@ function verdictsOf(policy) {
 
 /** Where the page's own verdicts differ from the server's, for the moment at which the server judged. */
 export function differences() {
-  const found = [];
+  const found = [], verdicts = serverVerdicts();
   for (const policy of state.policies) {
-    const told = state.reports.get(digitsOf(policy.policy_id)), mine = told && workOut(policy, state.judgedAt);
+    const told = verdicts?.reports.get(digitsOf(policy.policy_id)), mine = told && workOut(policy, verdicts.at);
     mine?.forEach((it, index) => {
       const other = told[index];
       if (it.status === other.status && it.measure === other.measure) return;
@@ -87,7 +96,7 @@ function devices(verdict, key, open, { owner = 0, title = "" } = {}) {
 
 /** What stands beside a rule's name. */
 function ruleTag(rule, verdict, isInForce, tally) {
-  if (verdict) return TAGS[verdict.status];
+  if (verdict) return standingTag(verdict.status);
   if (!isInForce) return null;
   if (tally?.violated) return ["bad", `✗ broken by ${one(tally.violated, "operator")}`];
   if (tally?.ok) return ["good", `✓ kept by ${one(tally.ok, "operator")}`];
@@ -134,8 +143,8 @@ function shownOwners(policy = null) {
 
 /** Marks the vehicles that a shown rule catches. */
 function markCaught(policy, index) {
-  const owners = shownOwners(policy), { owner } = state.fleet;
-  state.caught = new Uint8Array(state.fleet.count);
+  const owners = shownOwners(policy), { owner, count } = shownFleet();
+  state.caught = new Uint8Array(count);
   for (const row of workOut(policy, now())[index].caught) if (owners[owner[row]]) state.caught[row] = 1;
 }
 
@@ -197,13 +206,13 @@ const authorActions = (policy) => el("div", { className: "actions" },
 // How many rows are shown, and what the table says.
 let most = 0, shownRows = "";
 
-/** The rows for now, since when they are seen so, and how many operators break and keep each rule. */
+/** The rows for the moment that is shown, since when those of now are seen so, and how many operators break each rule. */
 function takeRows() {
-  const isTold = isAuthor() && state.moment === null && state.standings !== null;
-  if (!state.me?.operators?.some((it) => it.id === state.shownOperator)) state.shownOperator = null;
-  rows = isTold ? rules.standingRows(state.standings.operators, state.policies) : [];
+  const told = shownStandings();
   const longest = Math.max(LEAST_MISSED, ROUNDS_MISSED * state.settings.refresh_seconds * 1000);
-  if (isTold) state.seen = rules.remember(state.seen, rows, state.standings.at, longest);
+  if (!state.me?.operators?.some((it) => it.id === state.shownOperator)) state.shownOperator = null;
+  rows = told ? rules.standingRows(told.operators, state.policies) : [];
+  if (told && state.moment === null) state.seen = rules.remember(state.seen, rows, told.at, longest);
   tallies = new Map();
   for (const { policy, index, verdict } of rows) {
     const key = `${policy.policy_id}/${index}`, tally = tallies.get(key) || {};
@@ -219,13 +228,24 @@ function chosenRows() {
   return rules.inOrder(left, $("order").value, operatorName);
 }
 
-const standingTag = (status) => TAGS[status] || ["", plain(status)];
+/** Since when a rule is broken that is so at `at`, in the words of what was asked. */
+function askedSince({ from, before, isKept, isComing, fault }, at) {
+  if (isComing) return "asking since when…";
+  if (fault) return pastWords(fault);
+  const since = `since ${state.clock.since(from, at)}`;
+  if (before !== null) return `${since}, not yet at ${state.clock.since(before, from)}`;
+  return `${since} or before${isKept ? "" : ": what stood earlier isn’t kept"}`;
+}
 
-/** Since when a rule is broken, as far as this page has seen; empty where it isn't. */
+/** Since when a rule is broken, by what the page has seen or asked, empty where it isn't; and whether it may be asked. */
 function brokenSince(row) {
-  if (row.verdict.status !== "violated") return "";
-  const { from, hasBegun } = state.seen.get(rules.rowKey(row));
-  return `${hasBegun ? "since" : "before"} ${state.clock.since(from, state.standings.at)}`;
+  if (row.verdict.status !== "violated") return { text: "", isOpen: false };
+  const key = rules.rowKey(row), { at } = shownStandings(), seen = state.moment === null ? state.seen.get(key) : null;
+  // What was asked before the page saw the rule become as it is says nothing of it.
+  const found = state.sinces.get(key), asked = seen?.from > found?.at || state.lacksPast ? null : found;
+  if (seen?.hasBegun) return { text: `since ${state.clock.since(seen.from, at)}`, isOpen: false };
+  if (asked) return { text: askedSince(asked, at), isOpen: Boolean(asked.fault) };
+  return { text: seen ? `before ${state.clock.since(seen.from, at)}` : "", isOpen: !state.lacksPast };
 }
 
 // A narrow page shows rows as blocks, so the table's parts say what they are.
@@ -236,11 +256,13 @@ function standingRow(row, open) {
   const [tone, text] = standingTag(verdict.status), measure = rules.measured(rule, verdict);
   const name = rule.name && rule.name !== policy.name ? rule.name : null;
   const shown = { "aria-pressed": String(state.shownRule === key), "aria-label": `Show on the map: ${policy.name} ${name || ""}` };
-  const since = brokenSince(row);
+  const since = brokenSince(row), ask = () => el("div", {}, link("Since when?", () => actions.askSince(row),
+    { className: "link small", "aria-label": `Since when? ${operatorName(id)}, ${name || policy.name}` }));
   return el("tr", { role: "row", "data-key": `stands ${id} ${key}`, className: verdict.status === "violated" ? "bad" : "" },
     el("th", { role: "rowheader", scope: "row" }, operatorName(id)),
     cell(link(policy.name, () => showRule(rule, key), shown), name && el("div", { className: "small" }, name)),
-    cell(el("span", { className: `tag ${tone}` }, text), since && el("div", { className: "small" }, since)),
+    cell(el("span", { className: `tag ${tone}` }, text), since.text && el("div", { className: "small" }, since.text),
+      since.isOpen && ask()),
     cell(devices(verdict, `stands ${id} ${key}`, open, { owner, title: measure }) || measure));
 }
 
@@ -255,7 +277,8 @@ function moreRows(left) {
 /** The first rows of the table. */
 function standingTable(chosen, open) {
   const head = (name) => el("th", { role: "columnheader", scope: "col" }, name);
-  const none = rows.length ? "No rule is left by what is chosen above." : "No rule is in force for an operator.";
+  const [is, then] = state.moment === null ? ["is", ""] : ["was", " then"];
+  const none = rows.length ? "No rule is left by what is chosen above." : `No rule ${is} in force for an operator${then}.`;
   if (!chosen.length) return [el("p", { className: "small" }, none)];
   return [
     el("table", { className: "standing", role: "table", "aria-labelledby": "standingtitle" },
@@ -279,31 +302,70 @@ function offer(select, pairs) {
   select.value = pairs.some(([key]) => key === value) ? value : "";
 }
 
-/** Why there is no table, empty where there is one. */
-function whyNone() {
-  if (!state.me?.oversight) return "This server doesn’t show the city how its operators stand.";
-  if (oversight() === "none") {
-    return "The configuration doesn’t show the city how its operators stand. With \"oversight\": \"verdicts\" in it their verdicts "
-      + "are told here; with \"oversight\": \"vehicles\" their vehicles are on the map too.";
-  }
-  if (isOver()) {
-    return "How operators stood then isn’t told here: the server tells how they stand now. What the city’s journal says of "
-      + "the past the command “ruffletuff report” writes, of all operators or of one.";
-  }
-  if (state.moment !== null) return "How operators stand is told for now alone.";
-  return state.standings ? "" : "Asking how operators stand…";
+// Why a moment that is over isn't shown, where more is to be said than the refusal's own words.
+const PAST_WORDS = {
+  not_kept: "What stood then isn’t kept on this server any more: its records were shortened since. An archive of them "
+    + "would have it: ask whoever runs the server.",
+  busy: "The server is still working out another question about the past.",
+  future: "By the server’s clock that moment hasn’t come yet, so nothing is told of it.",
+};
+// Where it is of no use to ask again.
+const LASTING = ["not_kept", "future", "role"];
+
+const pastWords = (fault) => PAST_WORDS[fault.code] || fault.message;
+
+/** What stands in the place of a moment that is over and isn't shown: `untold` where the server doesn't tell the past. */
+function pastNote(untold) {
+  const { past } = state;
+  if (!past) return [untold];
+  if (!past.fault) return ["Asking what stood then…"];
+  const again = link("Ask again", () => actions.askAgain(), { "data-key": "again" });
+  return LASTING.includes(past.fault.code) ? [pastWords(past.fault)] : [pastWords(past.fault), " ", again];
 }
 
-/** How many operators break a rule, when that was told, and how often it is. */
+/** Why there is no table, null where there is one. */
+function whyNone() {
+  if (!state.me?.oversight) return ["This server doesn’t show the city how its operators stand."];
+  if (oversight() === "none") {
+    return ["The configuration doesn’t show the city how its operators stand. With \"oversight\": \"verdicts\" in it "
+      + "their verdicts are told here; with \"oversight\": \"vehicles\" their vehicles are on the map too."];
+  }
+  if (shownStandings()) return null;
+  if (isOver()) {
+    return pastNote("How operators stood then isn’t told here: the server tells how they stand now. What the city’s "
+      + "journal says of the past the command “ruffletuff report” writes, of all operators or of one.");
+  }
+  return [state.moment === null ? "Asking how operators stand…" : "How operators stand isn’t told of a moment to come."];
+}
+
+/** When the server told how operators stand, and how often it is asked; or how it came to tell how they stood then. */
+function toldNote(at) {
+  const { clock, settings } = state, zone = clock.name(at);
+  if (state.moment !== null) return `By what had been reported until ${clock.when(at)} (${zone}).`;
+  return `As of ${clock.time(at)} (${zone}), `
+    + `renewed every ${settings.refresh_seconds} seconds while the page is looked at.`;
+}
+
+/** How many operators break a rule, or broke one then. */
 function standingNote() {
-  const { at, operators } = state.standings, broken = rows.filter((it) => it.verdict.status === "violated");
+  const { at, operators } = shownStandings(), broken = rows.filter((it) => it.verdict.status === "violated");
   const who = new Set(broken.map((it) => it.owner)).size, kept = rows.filter((it) => it.verdict.status === "ok").length;
   const untold = operators.filter((it) => !it.compliance?.policies).map((it) => operatorName(it.id));
-  return `${who ? number(who) : "None"} of ${one(operators.length, "operator")} ${who > 1 ? "break" : "breaks"} a rule: `
-    + `${one(broken.length, "rule")} broken, ${number(kept)} kept. As of ${state.clock.time(at)} (${state.clock.name(at)}), `
-    + `renewed every ${state.settings.refresh_seconds} seconds while the page is looked at.`
+  const does = state.moment !== null ? "broke a rule then" : `${who > 1 ? "break" : "breaks"} a rule`;
+  return `${who ? number(who) : "None"} of ${one(operators.length, "operator")} ${does}: `
+    + `${one(broken.length, "rule")} broken, ${number(kept)} kept. ${toldNote(at)}`
     + (untold.length ? ` How ${words(untold, "and")} stands wasn’t told.` : "");
 }
+
+const SEEN = "Broken “since” a time: this page saw the rule become broken then. “Before” a time: it was broken already "
+  + "when this page first looked. ";
+const ASKED = "“Since when?” asks the server about a few earlier moments: the rule was broken at the first time that is "
+  + "named, and at each later one that was asked; at the second it wasn’t. Choose another moment below the map to see how "
+  + "operators stood then. ";
+
+/** What is said below the table: of since when a rule is broken, and where the past is told. */
+const sinceNote = () => (state.moment === null ? SEEN : "") + (state.lacksPast ? "" : ASKED)
+  + "How they stood over days or weeks, the command “ruffletuff report” writes from the journal.";
 
 /** The operators and the policies that can be chosen. */
 function offerChoices() {
@@ -317,7 +379,8 @@ function offerChoices() {
 function renderTable() {
   const chosen = chosenRows();
   const told = chosen.slice(0, most).map((it) => [it.id, it.policy.policy_id, it.index, it.verdict, brokenSince(it)]);
-  const said = JSON.stringify([told, chosen.length, rows.length, state.shownRule, oversight(), state.me.operators]);
+  const said = JSON.stringify([told, chosen.length, rows.length, state.moment, state.shownRule, oversight(),
+    state.me.operators]);
   if (said === shownRows) return;
   const place = keepPlace($("standing"), "#standingtable");
   const open = [...document.querySelectorAll("#standingtable details")].filter((it) => it.open).map((it) => it.dataset.key);
@@ -330,10 +393,14 @@ function renderStandings() {
   $("standing").hidden = !isAuthor();
   $("work").classList.toggle("overseen", isAuthor());
   if (!isAuthor()) return;
-  const why = whyNone();
-  $("standingnote").textContent = why || standingNote();
-  $("standingview").hidden = why !== "";
+  const why = whyNone(), place = keepPlace($("standing"), "#standingnote");
+  const then = isOver() && state.past ? state.clock.when(state.moment) : null;
+  $("standingtitle").textContent = then ? `How operators stood on ${then}` : "How operators stand";
+  $("standingnote").replaceChildren(...why || [standingNote()]);
+  place();
+  $("standingview").hidden = why !== null;
   if (why) return;
+  $("sincenote").textContent = sinceNote();
   offerChoices();
   renderTable();
 }
@@ -343,7 +410,7 @@ const CSV_HEAD = ["Moment (UTC)", "Operator", "Operator identifier", "Policy", "
 
 /** The table as CSV, with all rows that are chosen. */
 function standingCsv() {
-  const moment = new Date(state.standings.at).toISOString();
+  const moment = new Date(shownStandings().at).toISOString();
   const line = ({ id, policy, rule, verdict }) => [moment, operatorName(id), id, policy.name, policy.policy_id, rule.name,
     rule.rule_id, standingTag(verdict.status)[1].replace(/^[✓✗–] /, ""), verdict.measure, rule.minimum, rule.maximum,
     rule.rule_type === "time" ? rule.rule_units : "vehicles", (verdict.devices || []).join(" ")];
@@ -351,7 +418,7 @@ function standingCsv() {
 }
 
 function downloadCsv() {
-  const moment = new Date(state.standings.at).toISOString().slice(0, 19).replace(/[T:]/g, "-");
+  const moment = new Date(shownStandings().at).toISOString().slice(0, 19).replace(/[T:]/g, "-");
   download(`operators-${moment}.csv`, "text/csv;charset=utf-8", standingCsv());
 }
 
@@ -361,6 +428,7 @@ export function start() {
   const anew = () => {
     most = isNarrow ? FIRST_ROWS_NARROW : FIRST_ROWS;
     state.shownOperator = $("byoperator").value || null;
+    actions.narrow();
     render();
     draw();
   };
@@ -394,7 +462,7 @@ function meantFor(policy) {
 }
 
 function foresightRow({ id, isRead }, rule, { status, measure }) {
-  const [tone, text] = isRead ? standingTag(status) : ["", "vehicles not read"];
+  const [tone, text] = isRead ? standingTag(status, "now") : ["", "vehicles not read"];
   const counted = isRead && status !== "inactive" ? number(measure) : "–";
   return el("tr", {}, el("th", { scope: "row" }, operatorName(id)), el("td", {}, counted), el("td", {}, rules.bounds(rule)),
     el("td", {}, el("span", { className: `tag ${tone}` }, text)));
@@ -470,35 +538,50 @@ function renderPlaces(open) {
 const UNTOLD = "What stood then isn’t told here: the server tells your vehicles and verdicts as they are now.";
 const WATCHED = {
   none: "The city’s author is shown neither your verdicts nor your vehicles.",
-  verdicts: "The city’s author is shown your verdicts, with the identifiers of vehicles that break a rule, "
-    + "and not where your vehicles are.",
-  vehicles: "The city’s author is shown your verdicts and all of your vehicles: where each is, its state, and since when.",
+  verdicts: "The city’s author is shown your verdicts, of now and of moments that are over, with the identifiers of "
+    + "vehicles that break a rule, and not where your vehicles are.",
+  vehicles: "The city’s author is shown your verdicts and all of your vehicles, of now and of moments that are over: "
+    + "where each is, its state, and since when.",
 };
 
-/** An operator's vehicles and verdicts in numbers, for now or as they would be; none for a moment that is over. */
+/** How many rules there are, what they are or were: `3 rules were kept`, without the number. */
+function ruleCount(count, what) {
+  const verb = state.moment === null ? "" : !isOver() ? "would be " : count === 1 ? "was " : "were ";
+  return `${count === 1 ? "rule" : "rules"} ${verb}${what}`;
+}
+
+/** An operator's vehicles and verdicts in numbers, as they are, were then, or would be. */
 function tiles(broken, kept) {
-  if (isOver()) return el("p", { id: "untold" }, UNTOLD);
+  const fleet = shownFleet(), past = shownPast(), which = state.moment === null ? "" : past ? " then" : " as of now";
   const tile = (value, what, tone = "") => el("div", { className: tone }, el("b", {}, value), what);
-  const would = state.moment === null ? "" : "would be ";
+  if (isOver() && !past) return el("p", { id: "untold" }, pastNote(UNTOLD));
   return el("div", { className: "tiles" },
-    tile(state.fleet ? number(state.fleet.count) : "…", would ? "vehicles as of now" : "vehicles"),
-    tile(number(broken), `${broken === 1 ? "rule" : "rules"} ${would}broken`, broken ? "bad" : ""),
-    tile(number(kept), `${kept === 1 ? "rule" : "rules"} ${would}kept`));
+    tile(fleet ? number(fleet.count) : past?.fleetFault ? "–" : "…", `vehicles${which}`),
+    tile(number(broken), ruleCount(broken, "broken"), broken ? "bad" : ""),
+    tile(number(kept), ruleCount(kept, "kept")));
 }
 
 const FOR_EVERYONE = "What the city has published for everyone. Policies for single operators, and how operators stand by any, "
   + "aren’t told here.";
 
+/** What an operator is told above its policies: how it stands, or stood then, and what the city sees of that. */
+function ownSummary(broken, kept) {
+  const watched = WATCHED[state.me?.oversight], then = isOver() && state.past ? state.clock.when(state.moment) : null;
+  return [then && el("h2", { id: "then" }, `How your vehicles stood on ${then}`), tiles(broken, kept),
+    watched && el("p", { className: "small", id: "watched" }, watched)].filter(Boolean);
+}
+
 function renderSummary(broken, kept) {
-  const watched = WATCHED[state.me?.oversight];
+  const place = keepPlace($("panel"), "#summary");
   if (isEveryone()) $("summary").replaceChildren(el("p", { id: "foreveryone" }, FOR_EVERYONE));
-  else $("summary").replaceChildren(...(isAuthor() ? [] : [tiles(broken, kept),
-    ...(watched ? [el("p", { className: "small", id: "watched" }, watched)] : [])]));
+  else $("summary").replaceChildren(...(isAuthor() ? [] : ownSummary(broken, kept)));
+  place();
 }
 
 /** The operators whose vehicles are on the map, with their marks and how many of theirs break a rule. */
 function ownerItems() {
-  const { starts, missing, owner } = state.fleet, counts = new Map();
+  const { starts, missing, owner } = shownFleet(), counts = new Map();
+  const when = state.moment === null ? `as of ${state.clock.time(state.fleetAt)}` : "as they stood then";
   for (const row of state.offenders) counts.set(owner[row], (counts.get(owner[row]) || 0) + 1);
   const item = ({ id }, index) => {
     const broken = counts.get(index), icon = el("canvas", { width: 16, height: 16 });
@@ -508,7 +591,15 @@ function ownerItems() {
   };
   const isThere = (_, index) => starts[index + 1] > starts[index] || missing.includes(index);
   return [...state.me.operators.map((it, index) => (isThere(it, index) ? item(it, index) : null)).filter(Boolean),
-    el("li", { className: "small" }, `Vehicles as of ${state.clock.time(state.fleetAt)}`)];
+    el("li", { className: "small" }, `Vehicles ${when}`)];
+}
+
+/** What stands in the place of vehicles: that they are being read, or why they aren't there; empty where none are due. */
+function fleetNote() {
+  const past = shownPast(), isDue = isAuthor() ? oversight() === "vehicles" && (past || state.moment === null) : past;
+  if (!isDue || shownFleet()) return "";
+  if (past?.fleetFault) return `Where vehicles stood then isn’t shown. ${pastWords(past.fleetFault)}`;
+  return isAuthor() ? "Reading the operators’ vehicles…" : "Reading your vehicles of then…";
 }
 
 function renderLegend() {
@@ -517,8 +608,8 @@ function renderLegend() {
   const legend = $("legend"), { scrollTop } = legend;
   legend.replaceChildren(...layers.KINDS.filter((it) => used.has(it)).map((it) => item(it, plain(it))),
     ...(state.offenders.size ? [item("ring", "breaks a rule")] : []), ...(isAuthor() && fleet ? ownerItems() : []));
-  const isComing = isAuthor() && oversight() === "vehicles" && state.moment === null && !fleet;
-  if (isComing) legend.append(el("li", {}, "Reading the operators’ vehicles…"));
+  const note = fleetNote();
+  if (note) legend.append(el("li", {}, note));
   legend.setAttribute("aria-label", isAuthor() ? "Marks of operators" : "Colours of vehicles");
   legend.tabIndex = legend.scrollHeight > legend.clientHeight + 1 ? 0 : -1;
   legend.scrollTop = scrollTop;
@@ -531,15 +622,22 @@ function publicNote() {
   return `${isOver() ? "What was in force then" : "What would be in force then"}, by what is published today (${zone}).`;
 }
 
+/** What is shown of a moment that is over. */
+function overNote() {
+  const inForce = "What was in force then, by what is published today.", t = state.moment;
+  const none = `${state.past ? "No" : "What stood then isn’t told here: no"} vehicle is shown, and no verdict.`;
+  const whose = isAuthor() ? "How operators stood is" : "Your vehicles and verdicts are";
+  if (!shownPast()) return `${inForce} ${none}`;
+  return `${inForce} ${whose} what the server would have answered on ${state.clock.when(t)} (${state.clock.name(t)}).`;
+}
+
 /** What is shown, for which moment, and who has judged it. */
 function momentNote() {
   if (isEveryone()) return publicNote();
-  if (isOver()) {
-    return "What was in force then, by what is published today. "
-      + "What stood then isn’t told here: no vehicle is shown, and no verdict.";
-  }
+  if (isOver()) return overNote();
   if (state.moment !== null) {
-    return isAuthor() ? "What would be in force then, by what is published today. How operators stand is told for now alone."
+    return isAuthor()
+      ? "What would be in force then, by what is published today. How operators stand isn’t told of a moment to come."
       : "The server judges only by its own clock. For this moment the page works it out by itself: "
         + "the fleet as last reported, standing still, under what is published today.";
   }
@@ -554,8 +652,8 @@ function momentNote() {
 function markAll(judged) {
   state.offenders = new Set();
   state.caught = null;
-  if (!shownFleet()) return;
-  const owners = shownOwners();
+  const fleet = shownFleet(), owners = fleet && shownOwners();
+  if (!fleet) return;
   for (const { policy, verdicts } of judged) {
     policy.rules.forEach((_, index) => {
       if (state.shownRule === `${policy.policy_id}/${index}`) markCaught(policy, index);
@@ -563,7 +661,7 @@ function markAll(judged) {
     });
   }
   for (const { owner, policy, index, verdict } of rows) if (owners[owner]) markOffenders(policy, index, verdict, owner);
-  if (!state.caught && owners.includes(false)) state.caught = state.fleet.owner.map((owner) => (owners[owner] ? 1 : 0));
+  if (!state.caught && owners.includes(false)) state.caught = fleet.owner.map((owner) => (owners[owner] ? 1 : 0));
 }
 
 function renderPolicies(judged) {

@@ -100,12 +100,25 @@ class Reading {
   }
 }
 
+/** What is wrong with an answer that isn't 200. */
+const codeOf = async (answer) => (await answer.json().catch(() => ({}))).error || "";
+
+/** The answer to a request, which is sent again after each of these times while the server is busy. */
+async function answerTo(target, headers, waits) {
+  for (const wait of waits) {
+    const answer = await fetch(target, { headers, cache: "no-store" });
+    if (answer.status !== 503 || await codeOf(answer.clone()) !== "busy") return answer;
+    await new Promise((then) => { setTimeout(then, wait); });
+  }
+  return fetch(target, { headers, cache: "no-store" });
+}
+
 /** Reads the fleet at a target behind those that were read; answers what was wrong, null where nothing was. */
-async function readBehind(rows, target, headers) {
+async function readBehind(rows, target, headers, waits) {
   const first = rows.count;
   try {
-    const answer = await fetch(target, { headers, cache: "no-store" });
-    if (!answer.ok) return { status: answer.status, code: (await answer.json().catch(() => ({}))).error || "" };
+    const answer = await answerTo(target, headers, waits);
+    if (!answer.ok) return { status: answer.status, code: await codeOf(answer) };
     const reading = new Reading(rows), decoder = new TextDecoder(), body = answer.body.getReader();
     for (let told = rows.count;;) {
       const { value, done } = await body.read();
@@ -121,15 +134,16 @@ async function readBehind(rows, target, headers) {
   }
 }
 
-/** Reads the fleets at the targets. What couldn't be read of several is left out, and named by its place. */
-async function read({ header, places, targets }) {
+/** Reads the fleets at the targets that aren't null. What of several couldn't be read is left out, and named by its place. */
+async function read({ header, places, targets, waits }) {
   const rows = new Rows(), starts = [], faults = [];
   for (const [owner, target] of targets.entries()) {
     starts.push(rows.count);
     rows.owner = owner;
-    faults.push(await readBehind(rows, target, header));
+    faults.push(target === null ? null : await readBehind(rows, target, header, waits));
   }
-  if (faults.length && faults.every(Boolean)) return postMessage({ fault: faults[0] });
+  const asked = faults.filter((_, owner) => targets[owner] !== null);
+  if (asked.length && asked.every(Boolean)) return postMessage({ fault: asked[0] });
   starts.push(rows.count);
   const inside = places.map((polygons) => within(polygons, rows.columns, rows.count)), filled = rows.filled();
   const missing = [...faults.keys()].filter((owner) => faults[owner]);

@@ -4,7 +4,7 @@ import { $, el, keepPlace, link, say, terms } from "./dom.js";
 import { E7, boxOf, inWhole, mercator, unmercator, within } from "./geometry.js";
 import * as layers from "./layers.js";
 import { ago, digitsOf, isSame, plain, words } from "./rules.js";
-import { isAuthor, now, operatorName, shownFleet, standingOf, state } from "./state.js";
+import { isAuthor, isOver, now, operatorName, shownFleet, standingOf, state } from "./state.js";
 
 const NEAREST = 256, FARTHEST = 256 * 2 ** 21, FITTED = 256 * 2 ** 19, CLOSE = 256 * 2 ** 15;
 const REACH = 12, STILL = 5, STEP = 60;
@@ -111,12 +111,12 @@ export function idOf(bytes) {
   return digits.replace(/^(.{8})(.{4})(.{4})(.{4})/, "$1-$2-$3-$4-");
 }
 
-/** The device of a row. */
-export const deviceOf = (row) => idOf(state.fleet.id.subarray(row * 16, row * 16 + 16));
+/** The device of a row of the fleet that is shown. */
+export const deviceOf = (row) => idOf(shownFleet().id.subarray(row * 16, row * 16 + 16));
 
-/** The row of an operator's device, -1 where there is none: each fleet ascends by identifier. */
+/** The row of an operator's device in that fleet, -1 where there is none: each fleet ascends by identifier. */
 export function rowOf(device, owner = 0) {
-  const { id, starts } = state.fleet, key = digitsOf(device).match(/../g).map((it) => parseInt(it, 16));
+  const { id, starts } = shownFleet(), key = digitsOf(device).match(/../g).map((it) => parseInt(it, 16));
   let low = starts[owner], high = (starts[owner + 1] ?? 0) - 1;
   while (low <= high) {
     const middle = (low + high) >> 1;
@@ -136,6 +136,11 @@ export function close() {
   draw();
 }
 
+/** Takes away what is told of a vehicle: its fleet isn't the one that is shown any more. */
+export function closeVehicle() {
+  if (picked !== null) close();
+}
+
 function tell(...parts) {
   const place = keepPlace($("picked"), "#picked");
   $("picked").replaceChildren(...parts.filter(Boolean), link("Close", close, { "data-key": "close" }));
@@ -144,16 +149,16 @@ function tell(...parts) {
   draw();
 }
 
-/** A moment in local time and in the form of RFC 3339, and how long ago it was. */
+/** A moment in local time and in the form of RFC 3339, and how long before the moment that is shown it was. */
 function moment(t) {
-  const text = new Date(t).toISOString();
-  return el("span", {}, `${state.clock.when(t)}, ${ago(Math.max(0, now() - t))} `,
+  const text = new Date(t).toISOString(), word = state.moment === null ? "ago" : "before then";
+  return el("span", {}, `${state.clock.when(t)}, ${ago(Math.max(0, now() - t), word)} `,
     el("time", { className: "small", dateTime: text }, text));
 }
 
 /** Tells of a vehicle: its type and state, since when and after what, its last report where that is a later one, and where it is. */
 function tellVehicle(row) {
-  const fleet = state.fleet, kind = fleet.kinds[fleet.kind[row]], owner = state.me.operators?.[fleet.owner[row]];
+  const fleet = shownFleet(), kind = fleet.kinds[fleet.kind[row]], owner = state.me.operators?.[fleet.owner[row]];
   const places = state.places.filter((_, index) => fleet.inside[index]?.[row]).map((it) => it.name);
   const since = fleet.since[row], stamp = fleet.stamp[row];
   picked = row;
@@ -199,10 +204,10 @@ function pick(px, py) {
 
 /** Goes to an operator's vehicle by its device, and tells of it. */
 export function showDevice(device, owner = 0) {
-  const row = shownFleet() ? rowOf(device, owner) : -1;
+  const fleet = shownFleet(), row = fleet ? rowOf(device, owner) : -1;
   if (row < 0) return say("That vehicle isn’t on the map.");
-  view.x = state.fleet.x[row];
-  view.y = state.fleet.y[row];
+  view.x = fleet.x[row];
+  view.y = fleet.y[row];
   view.scale = Math.max(view.scale, CLOSE);
   wasMoved = true;
   tellVehicle(row);
@@ -210,9 +215,10 @@ export function showDevice(device, owner = 0) {
   reveal();
 }
 
-/** Keeps the vehicle that is told of, over a new reading of the fleet. */
+/** Keeps the vehicle that is told of, over a new reading of the fleet, unless it is one of a moment that is over. */
 export function takeFleet(fleet) {
-  const device = picked === null ? null : deviceOf(picked), owner = picked === null ? 0 : state.fleet.owner[picked];
+  const isTold = picked !== null && !isOver();
+  const device = isTold ? deviceOf(picked) : null, owner = isTold ? state.fleet.owner[picked] : 0;
   state.fleet = fleet;
   state.fleetAt = Date.now();
   if (device === null) return;

@@ -5,7 +5,7 @@
 
 URL is a server for the configuration city.json that has just begun, as http://127.0.0.1:8080. A cap of an earlier year is published
 first, which the cap in force supersedes; the festival is moved by whole weeks until it is still to come. The operator `scoot` has 419
-vehicles and breaks two to four rules, by the hour, `wheels` has 112 and keeps all of them; with N, `scoot` reports as many more that
+vehicles and breaks two to four rules, depending on the time of day, `wheels` has 112 and keeps all of them; with N, `scoot` reports as many more that
 break none; with --policies-only nobody reports any. Prints the URL and the access tokens. Ends with 1 where a request isn't answered 200.
 """
 
@@ -48,6 +48,11 @@ WHEELS = [
     (32, BICYCLE, "available", "city", ("downtown", "east"), 0.2, 48),
     (10, BICYCLE, "on_trip", "city", (), 0.02, 0.5),
 ]
+# The operators' tokens, what is to be said of each, and its fleet with the seed of its positions.
+FLEETS = (
+    ("scoot", "an operator that breaks two to four rules, depending on the time of day", SCOOT, 7),
+    ("wheels", "an operator that keeps all rules now", WHEELS, 8),
+)
 
 
 def document(name):
@@ -144,6 +149,18 @@ def fleet(groups, seed, now):
             }
 
 
+def more_of(vehicles):
+    """The group of so many vehicles that break no rule."""
+    return [(vehicles, SCOOTER, "available", "city", ("downtown", "east"), 0.2, 60)]
+
+
+def tell(url, author, told):
+    """Prints the address of the page, and the access tokens with what is to be said of each."""
+    print(f"{url}/ with one of these access tokens:")
+    for token, who in {author: "the city's author, who sees who breaks which rule", **told}.items():
+        print(f"  {token:8}{who}")
+
+
 PLACES = {name: list(polygons(name)) for name in ("city", "downtown", "east", "festival", "waterfront")}
 
 
@@ -155,15 +172,13 @@ def main():
     options = parser.parse_args()
     city, configuration, now = City(options.url), document("city.json"), int(time.time() * 1000)
     publish(city, configuration["author"], now)
-    more = [(options.vehicles, SCOOTER, "available", "city", ("downtown", "east"), 0.2, 60)]
-    told = {"scoot": "an operator that breaks two to four rules, by the hour", "wheels": "an operator that keeps all rules"}
+    told = {token: who for token, who, _, _ in FLEETS}
     with ThreadPoolExecutor(CONNECTIONS) as pool:
-        for token, groups, seed in () if options.policies_only else (("scoot", SCOOT + more, 7), ("wheels", WHEELS, 8)):
+        for token, _, groups, seed in () if options.policies_only else FLEETS:
+            groups = groups + more_of(options.vehicles) if token == FLEETS[0][0] else groups
             asked = [pool.submit(city.ask, token, "POST", "/fleet/events", report) for report in fleet(groups, seed, now)]
             told[token] += f", with {sum(it.result()['result'] == 'new' for it in asked)} vehicles"
-    print(f"{options.url}/ with one of these access tokens:")
-    for token, who in {configuration["author"]: "the city's author, who sees who breaks which rule", **told}.items():
-        print(f"  {token:8}{who}")
+    tell(options.url, configuration["author"], told)
     return 0
 
 

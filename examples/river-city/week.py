@@ -3,11 +3,12 @@
 
     week.py PROGRAM DIR [--every MINUTES]
 
-PROGRAM is a built ruffletuff. DIR gets the city's folder `city` and the report, with report.html, in the place of earlier ones. The week
+PROGRAM is a built ruffletuff. DIR gets the city's folder `city` and the report, with report.html, in the place of an earlier one. The week
 is the one from Monday, 2 March 2026 on, with the night in which clocks are set forward. Places, policies and fleets are those of
 publish.py; the festival is in this week. Vehicles go downtown by day and back at night, and many to the waterfront at the weekend; those
 that are broken, or have stood too long by then, stay. Prints who breaks which rule at the week's end, since when, and how often each
-rule was broken in it; last the command for a report on the first operator alone.
+rule was broken in it; last the command for a report on the first operator alone, into a folder that has none yet. It isn't the week that
+try.py shows.
 """
 
 import argparse
@@ -44,10 +45,10 @@ def in_the_week(policy):
     return {**policy, "start_date": policy["start_date"] - weeks * WEEK, "end_date": policy["end_date"] - weeks * WEEK}
 
 
-def of_author():
-    """What the author asks for at the week's begin: the earlier cap with the places, then the policies."""
+def of_author(moved):
+    """What the author asks for at first: the earlier cap with the places, then the policies, with the festival moved."""
     places, (earlier, *policies) = publish.named("geography"), publish.named("policy")
-    policies[-1] = in_the_week(policies[-1])
+    policies[-1] = moved(policies[-1])
     for it in places:
         yield "PUT", f"/drafts/geographies/{it['geography_id']}", it
     for it in (earlier, *policies):
@@ -94,20 +95,19 @@ def of_operators(ids):
         yield from sorted(found, key=lambda it: it[0])
 
 
-def texts(configuration):
-    """The payloads of the journal."""
-    operators = configuration["operators"]
-    yield records.head([(it["id"], it["limit"]) for it in operators])
-    for method, target, body in of_author():
-        yield records.entry(MONDAY, method, None, target.encode(), json.dumps(body).encode())
-    for at, operator, body in of_operators([it["id"] for it in operators]):
+def texts(configuration, begun, asked, reports):
+    """The payloads of a journal: what the author asks for when it begins, and what operators report then and later."""
+    yield records.head([(it["id"], it["limit"]) for it in configuration["operators"]])
+    for method, target, body in asked:
+        yield records.entry(begun, method, None, target.encode(), json.dumps(body).encode())
+    for at, operator, body in reports:
         yield records.entry(at, "POST", operator, b"/fleet/events", json.dumps(body, separators=(",", ":")).encode())
 
 
-def journal(configuration):
-    """The bytes of the journal, and how many records it has."""
+def journal(*given):
+    """The bytes of the journal of these, and how many records it has."""
     parts, sum_, position = [], 0, 0
-    for text in texts(configuration):
+    for text in texts(*given):
         part, sum_ = records.group(sum_, position, position, [text])
         parts.append(part)
         position += len(part)
@@ -156,10 +156,19 @@ def tell(folder, command, operator):
         if it.violated:
             print(f"  {it.last['operator_name']}, \"{it.last['rule_name']}\": {it.violated} of {it.open}")
     print(f"with each day: {os.path.join(folder, 'report.html')}")
-    alone = os.path.join(folder, operator["token"])
-    print(f"{operator['name']} alone, into an empty folder, as a city reports one operator from its own (docs/REPORT.md):")
+    tell_alone(command, operator, os.path.join(folder, operator["token"]))
+
+
+def tell_alone(command, operator, folder):
+    """Prints the command for a report on an operator alone, into a folder that has no report yet, and which file to open then."""
+    alone, number = folder, 1
+    while any(os.path.exists(os.path.join(alone, it)) for it in FILES):
+        number += 1
+        alone = f"{folder}-{number}"
+    print(f"to make the report on {operator['name']} alone, paste (docs/REPORT.md says what the words mean):")
     print(f"  mkdir -p {shlex.quote(alone)}")
     print(f"  {shlex.join([*command, '--operator', operator['id'], '--out', alone])}")
+    print(f"then open {os.path.join(alone, 'report.html')}")
 
 
 def clear(folder):
@@ -181,9 +190,9 @@ def main():
     os.makedirs(city := os.path.join(options.folder, "city"), exist_ok=True)
     configuration = publish.document("city.json")
     first = configuration["operators"][0]
-    for it in (options.folder, os.path.join(options.folder, first["token"])):
-        clear(it)
-    bytes_, count = journal(configuration)
+    clear(options.folder)
+    reports = of_operators([it["id"] for it in configuration["operators"]])
+    bytes_, count = journal(configuration, MONDAY, of_author(in_the_week), reports)
     with open(os.path.join(city, "journal"), "wb") as file:
         file.write(bytes_)
     print(f"a week of {count} records, {len(bytes_)} bytes, in {city}", flush=True)

@@ -1,7 +1,7 @@
 // Whether everybody can use the page: names of controls, contrast, narrow screens, the keyboard, and what the page is served with.
 
 import { City, isKeeping } from "./city.mjs";
-import { clean, fillForm, told } from "./looking.mjs";
+import { clean, fillForm, setMoment, told } from "./looking.mjs";
 
 /** Controls and pictures without a name, by the tree that a screen reader is given. */
 async function unnamed(page) {
@@ -92,7 +92,7 @@ async function keyboard(browser, city, { is, ok }) {
   await page.key("Enter", "\r");
   await page.until(() => document.querySelectorAll("article").length === 6 && document.querySelectorAll("#legend li").length > 1);
   await page.mouse(2, 2);
-  const order = await tabs(page, 50);
+  const order = await tabs(page, 60);
   const wanted = ["refresh", "leave", "byoperator", "bypolicy", "order", "brokenalone", "csv", "Show on the map", "map", "in", "out", "fit", "slider", "moment", "now", "draw", "write"];
   const places = wanted.map((it) => order.findIndex((name) => name.startsWith(it)));
   ok("Tab goes through the page in its order", places.every((it, n) => it >= 0 && (!n || it > places[n - 1])), order);
@@ -197,11 +197,8 @@ export default async function access(browser, program, tally) {
   await page.signIn("scoot");
   await page.run(() => document.querySelectorAll("details").forEach((it) => { it.open = true; }));
   await state(page, "an operator", tally);
-  await page.run(() => {
-    const field = document.getElementById("moment");
-    field.value = "2024-12-01T12:00";
-    field.dispatchEvent(new Event("change"));
-  });
+  await setMoment(page, "2024-12-01T12:00");
+  await page.run(() => new Promise((then) => { setTimeout(then, 1500); }));
   await state(page, "another moment", tally);
   await page.run(() => sessionStorage.clear());
   await page.go(city.url);
@@ -209,6 +206,10 @@ export default async function access(browser, program, tally) {
   await page.until(() => document.querySelectorAll("#legend li").length > 1);
   await page.run(() => document.querySelectorAll("details").forEach((it) => { it.open = true; }));
   await state(page, "the author", tally);
+  await setMoment(page, "2024-12-01T12:00");
+  await page.run(() => new Promise((then) => { setTimeout(then, 1500); }));
+  await state(page, "the author at another moment", tally);
+  await page.click("#now");
   for (const form of ["write", "draw"]) {
     await page.click(`#${form}`);
     await page.run(() => document.querySelectorAll("#authoring details").forEach((it) => { it.open = true; }));

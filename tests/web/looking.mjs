@@ -51,6 +51,13 @@ export const texts = (page, selector) => page.run((it) =>
 /** What a function of the page's state answers. */
 export const inState = (page, look) => page.run(`import("/state.js").then(({ state }) => (${look})(state))`);
 
+/** Chooses a moment by its field: local time, to the millisecond where it is given so. */
+export const setMoment = (page, text) => page.run((it) => {
+  const field = document.getElementById("moment");
+  field.value = it;
+  field.dispatchEvent(new Event("change"));
+}, text);
+
 /** Where the page's own verdicts differ from the server's. */
 export const differences = (page) => page.run(`import("/cards.js").then((it) => it.differences().join())`);
 

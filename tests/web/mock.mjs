@@ -35,10 +35,10 @@ export const fleet = (count) => Array.from({ length: count }, (_, n) => {
     propulsion_types: ["electric"], since, timestamp: since, vehicle_state, vehicle_type: n % 4 ? "scooter_standing" : "bicycle" };
 });
 
-/** Serves the page, and what `answer` gives for a path: a text, or `[status, text]`. */
+/** Serves the page, and what `answer` gives for a path and its query, at once or later: a text, or `[status, text]`. */
 export function serve(answer) {
-  const server = createServer((request, response) => {
-    const path = request.url.split("?")[0], told = answer(path), name = path === "/" ? "/index.html" : path;
+  const server = createServer(async (request, response) => {
+    const [path, query = ""] = request.url.split("?"), told = await answer(path, query), name = path === "/" ? "/index.html" : path;
     const file = join(TOP, "web", name), isThere = told !== undefined || existsSync(file);
     const [status, body] = !isThere ? [404, "{}"] : Array.isArray(told) ? told : [200, told ?? readFileSync(file)];
     response.writeHead(status, { "content-type": told === undefined && isThere ? TYPES[extname(name)] : "application/json" });

@@ -1,7 +1,7 @@
 // What an operator sees: its vehicles, the verdicts of its rules, other moments, and the map.
 
 import { City } from "./city.mjs";
-import { cardOf, clean, differences, inState, standingOf, texts, told } from "./looking.mjs";
+import { cardOf, clean, differences, inState, setMoment, standingOf, texts, told } from "./looking.mjs";
 
 /** The cards say what the server says, and the page works out the same. */
 async function verdicts(page, city, { is, ok }) {
@@ -38,11 +38,7 @@ async function offenders(page, city, { is, ok }) {
 
 /** Other moments: the page's own verdict, marked as its own. */
 async function moments(page, { is, ok }) {
-  const go = (text) => page.run((it) => {
-    const field = document.getElementById("moment");
-    field.value = it;
-    field.dispatchEvent(new Event("change"));
-  }, text);
+  const go = (text) => setMoment(page, text);
   const friday = await inState(page, ({ policies, clock }) =>
     clock.toField(policies.find((it) => it.name === "Lantern Festival").start_date).slice(0, 10));
   await go(`${friday}T23:30`);

@@ -1,12 +1,12 @@
 // What the author is shown of the operators, by the three words that a configuration may have for it: a table, CSV, vehicles on the map;
-// what an operator is told of that; and that no moment but now has counts of vehicles.
+// what an operator is told of that; and that no other moment has counts of now.
 
 import { mkdtempSync, readFileSync, readdirSync, rmSync } from "node:fs";
 import { tmpdir } from "node:os";
 import { join } from "node:path";
 import { wait } from "./browser.mjs";
 import { City, example } from "./city.mjs";
-import { cardOf, clean, inState, texts, told } from "./looking.mjs";
+import { cardOf, clean, inState, setMoment, texts, told } from "./looking.mjs";
 import { device, fleet, published, serve } from "./mock.mjs";
 
 const VERDICTS = { ok: "kept", violated: "broken", inactive: "not open now", not_evaluated: "not judged" };
@@ -18,21 +18,18 @@ const HOSTILE = ["<img src=x onerror=\"document.title='broken into'\">", '=HYPER
 /** What the page has asked of how operators stand. */
 const asked = (page, from = 0) => page.asked.slice(from).map((it) => new URL(it.url).pathname).filter((it) => /^\/app\/(compliance|fleet)/.test(it));
 
-const setMoment = (page, text) => page.run((it) => {
-  const field = document.getElementById("moment");
-  field.value = it;
-  field.dispatchEvent(new Event("change"));
-}, text);
+/** Whether a server tells what stood at moments that are over, of which this is the first. */
+export const tellsPast = async (city) => (await city.ask("city", "GET", "/app/compliance?at=0")).document?.at === 0;
 
 /** Chooses from a list above the table. */
-const choose = (page, id, text) => page.run((list, wanted) => {
+export const choose = (page, id, text) => page.run((list, wanted) => {
   const it = document.getElementById(list), option = [...it.options].find((one) => one.textContent === wanted);
   it.value = option.value;
   it.dispatchEvent(new Event("change"));
 }, id, text);
 
 /** Each row of the table: operator, rule or policy, how it stands. */
-const table = (page) => page.run(() => [...document.querySelectorAll("#standingtable tbody tr")].map((row) => {
+export const table = (page) => page.run(() => [...document.querySelectorAll("#standingtable tbody tr")].map((row) => {
   const [policy, stands] = row.querySelectorAll("td"), name = policy.querySelector(".small") || policy.querySelector("button");
   return [row.querySelector("th").textContent, name.textContent, stands.querySelector(".tag").textContent.replace(/^\S /, "")].join(" | ");
 }));
@@ -135,7 +132,7 @@ async function vehicles(page, city, { is, ok }) {
 }
 
 /** The lines of CSV (RFC 4180), each its values. */
-function parsed(text) {
+export function parsed(text) {
   const lines = [[]];
   for (const [, end, quoted, bare] of text.matchAll(/(^|,|\r\n)(?:"((?:[^"]|"")*)"|([^",\r\n]*))/g)) {
     if (end === "\r\n") lines.push([]);
@@ -145,7 +142,7 @@ function parsed(text) {
 }
 
 /** What is downloaded by a click. */
-async function downloaded(page) {
+export async function downloaded(page) {
   const folder = mkdtempSync(join(tmpdir(), "csv-"));
   try {
     await page.browser.call("Browser.setDownloadBehavior", { behavior: "allow", browserContextId: page.context, downloadPath: folder });
@@ -176,22 +173,34 @@ async function csv(page, city, { is, ok }) {
   is("and the vehicles that break a rule", lines.find((it) => it[at("Measure")] === "5").at(-1), reports.find((it) => it.measure === 5).devices.join(" "));
 }
 
-/** Another moment than now shows neither verdicts nor vehicles of now. */
-async function moments(author, operator, { is, ok }) {
-  for (const [text, pattern] of [["2024-12-01T12:00", /How operators stood then isn’t told here/], ["2031-12-01T12:00", /for now alone/]]) {
+/** Another moment than now shows the author nothing of now: before all was published, by whether the server tells that, and to come. */
+async function ofAuthor(author, isTold, { is, ok }) {
+  const over = isTold ? ["#standingtable", /No rule was in force for an operator then/] : ["#standingnote", /isn’t told here/];
+  for (const [text, where, pattern] of [["2024-12-01T12:00", ...over], ["2031-12-01T12:00", "#standingnote", /isn’t told of a moment to come/]]) {
     await setMoment(author, text);
-    ok(`the author at ${text}`, pattern.test(await author.text("#standingnote")), await author.text("#standingnote"));
-    is(`no table at ${text}`, await author.run(() => document.getElementById("standingview").hidden), true);
+    const said = await told(author, where, pattern);
+    ok(`the author at ${text}`, pattern.test(said), said);
+    is(`no row at ${text}`, (await author.run(() => document.getElementById("standingview").hidden)) || (await table(author)).length === 0, true);
     is(`no offender at ${text}`, await inState(author, (it) => it.offenders.size), 0);
-    is(`no operator in the legend at ${text}`, await author.run(() => document.querySelectorAll("#legend li").length), 0);
+    is(`no operator in the legend at ${text}`, await author.run(() => document.querySelectorAll("#legend canvas").length), 0);
   }
   await author.click("#now");
   await told(author, "#legend", /Scoot/);
   ok("now the operators are back", /Scoot/.test(await author.text("#legend")) && (await table(author)).length > 0);
+}
+
+/** And so an operator: what stood then is told, or that it isn't. */
+async function ofOperator(operator, isTold, { is, ok }) {
   await setMoment(operator, "2024-12-01T12:00");
-  is("an operator is told no count of a moment that is over", await operator.run(() => document.querySelectorAll(".tiles b").length), 0);
-  ok("but that it isn't told", /What stood then isn’t told here/.test(await operator.text("#untold")), await operator.text("#summary"));
-  ok("and so by the note", /no vehicle is shown, and no verdict/.test(await operator.text("#timenote")));
+  if (isTold) {
+    const said = await told(operator, ".tiles", /^0vehicles then/);
+    ok("before all was published an operator had nothing", /^0vehicles then0rules were broken0rules were kept$/.test(said), said);
+  } else {
+    const said = await told(operator, "#untold", /isn’t told here/);
+    ok("an operator is told that it isn't told", /What stood then isn’t told here/.test(said), said);
+    is("and no count", await operator.run(() => document.querySelectorAll(".tiles b").length), 0);
+    ok("and so by the note", /no vehicle is shown, and no verdict/.test(await operator.text("#timenote")));
+  }
   is("no vehicle is in the legend", await operator.run(() => document.querySelectorAll("#legend li").length), 0);
   is("no rule is kept or broken then", /[✓✗]|counted/.test(await operator.text("#policies article")), false);
   await operator.run(() => document.getElementById("map").focus());
@@ -213,7 +222,9 @@ export async function whole(browser, program, { is, ok }) {
   await vehicles(author, city, { is, ok });
   await operator.signIn("scoot");
   ok("vehicles: an operator is told so", /your verdicts and all of your vehicles/.test(await operator.text("#watched")));
-  await moments(author, operator, { is, ok });
+  const isTold = await tellsPast(city);
+  await ofAuthor(author, isTold, { is, ok });
+  await ofOperator(operator, isTold, { is, ok });
   await renewal(author, city, { is, ok });
   for (const [who, page] of Object.entries({ author, operator })) {
     await clean(page, city, { is }, `the ${who}, vehicles`);

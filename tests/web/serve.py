@@ -5,7 +5,8 @@
 Serves the files of web/, and passes every other request on to BACKEND, as 127.0.0.1:8080. Prints `ready`. FILE takes the place of
 web/settings.json. With --app it answers what is asked at /app/ by a GET too: who asks, withdrawals and drafts, and how operators stand,
 by the server's configuration, by what it has passed on and by what each operator is answered, so that the page can be tried with a
-server that has none of these.
+server that has none of these. How operators stood at a moment that is over BACKEND itself is asked; where it has no such path they are
+told as of now, as by a server that doesn't know of the query.
 """
 
 import argparse
@@ -196,6 +197,10 @@ class Handler(BaseHTTPRequestHandler):
             return self.send(304, b"", **fields)
         return self.send(200, body, **fields)
 
+    def past(self, authorization):
+        """What the server behind answers of a moment that is over."""
+        return self.backend.ask("GET", self.path, authorization, None)
+
     def answer(self):
         """A file, or what the server behind answers."""
         body = self.rfile.read(int(self.headers.get("content-length") or 0))
@@ -203,7 +208,9 @@ class Handler(BaseHTTPRequestHandler):
         if self.command in ("GET", "HEAD") and path in self.pages:
             return self.page(*self.pages[path])
         if self.app and path.startswith("/app/"):
-            status, told = self.app.answer(path, authorization, self.backend)
+            status, told = self.past(authorization) if STANDING.fullmatch(path) and "?at=" in self.path else (404, b"")
+            if status == 404 and b'"not_found"' not in told:
+                status, told = self.app.answer(path, authorization, self.backend)
         else:
             status, told = self.backend.ask(self.command, self.path, authorization, body)
             if self.app and status == 200:

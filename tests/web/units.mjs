@@ -17,7 +17,7 @@ globalThis.sessionStorage = { getItem: () => null };
 const part = (name) => import(join(copy, `${name}.js`));
 const { inWhole, isCrossing, mercator, unmercator, within } = await part("geometry");
 const { Clock, zone } = await part("zone");
-const { WORDS } = await part("server");
+const { WAITS, WORDS, askPast, inTurn } = await part("server");
 const { csv } = await part("dom");
 const rules = await part("rules");
 
@@ -141,8 +141,9 @@ is("each operator's own vehicles count", each(rule({ vehicle_types: ["scooter"],
 is("closed, and not judged, for each operator", each(rule({ days: ["fri"] }), rule({ rule_type: "speed" })), "inactive 0, inactive 0; not_evaluated 0, not_evaluated 0");
 is("a unit that is none isn't judged", ["hours", "toString", "constructor", undefined].map((rule_units) =>
   rules.isJudged({ rule_type: "time", rule_units })).join(), "true,false,false,false");
-is("how long ago, in words", [0, 59_999, 60_000, 3 * HOUR + 12 * 60_000, HOUR, 2 * DAY + 23 * HOUR + 59 * 60_000, DAY + 60_000].map(rules.ago).join("; "),
+is("how long ago, in words", [0, 59_999, 60_000, 3 * HOUR + 12 * 60_000, HOUR, 2 * DAY + 23 * HOUR + 59 * 60_000, DAY + 60_000].map((it) => rules.ago(it)).join("; "),
   "less than a minute ago; less than a minute ago; 1 minute ago; 3 hours 12 minutes ago; 1 hour ago; 2 days 23 hours ago; 1 day ago");
+is("how long before another moment", [0, HOUR].map((it) => rules.ago(it, "before then")).join("; "), "less than a minute before then; 1 hour before then");
 const words = [rules.TYPES, rules.STATES, rules.EVENTS, rules.PROPULSIONS];
 is("each word of MDS stands once, in order", words.map((list) => list.join() === [...new Set(list)].sort().join()).join(), "true,true,true,true");
 ok("and is a token of the protocol", words.flat().every((it) => /^[a-z0-9_]{1,40}$/.test(it)));
@@ -185,6 +186,72 @@ is("a moment of the same local day", east.since(Date.UTC(2026, 0, 4, 22, 5), Dat
 is("a moment of another one", east.since(Date.UTC(2026, 0, 4, 21, 59), Date.UTC(2026, 0, 4, 22, 5)), east.when(Date.UTC(2026, 0, 4, 21, 59)));
 is("CSV by RFC 4180, without a formula", csv([["a", 'b "c"', "d,e", "f\ng"], ["=1+1", "+1", "-1", "@x", "\tx", "'x"], [-1, null, undefined, 0]]),
   "a,\"b \"\"c\"\"\",\"d,e\",\"f\ng\"\r\n'=1+1,'+1,'-1,'@x,'\tx,'x\r\n-1,,,0\r\n");
+
+// --- Since when ---------------------------------------------------------------------------------------------------------
+
+/** Since when something is so that was so at some moments, counted in minutes before now, by how many questions. */
+async function sinceWhen(wasSo, now = Date.UTC(2026, 10, 29, 12, 0, 30)) {
+  const asked = [], minutes = (t) => Math.ceil((now - t) / 60_000);
+  const { from, before, isKept } = await rules.sinceWhen(now, async (t) => {
+    asked.push(t);
+    return wasSo(minutes(t));
+  });
+  const isWhole = asked.every((it) => it % 60_000 === 0), isOnce = new Set(asked).size === asked.length;
+  return { from: minutes(from), before: before && minutes(before), isKept, count: asked.length, isWhole, isOnce };
+}
+
+for (const age of [1, 4, 5, 14, 16, 59, 61, 200, 239, 241, 1_000, 5_000, 20_000]) {
+  const { from, before, count, isWhole, isOnce } = await sinceWhen((it) => it <= age), near = Math.max(5, (before ?? 0) / 64);
+  ok(`so for ${age} minutes`, from <= age && before > age && before - from <= near + 1, { age, from, before });
+  ok(`by few questions, of whole minutes, each once: ${age}`, count <= 15 && isWhole && isOnce, { count, isWhole, isOnce });
+}
+is("so for longer than is asked", JSON.stringify(await sinceWhen(() => true)),
+  '{"from":61441,"before":null,"isKept":true,"count":7,"isWhole":true,"isOnce":true}');
+is("so as long as it is told", JSON.stringify(await sinceWhen((it) => (it > 900 ? null : true))),
+  '{"from":241,"before":null,"isKept":false,"count":4,"isWhole":true,"isOnce":true}');
+is("nothing is told", JSON.stringify(await sinceWhen(() => null)),
+  '{"from":0,"before":null,"isKept":false,"count":1,"isWhole":true,"isOnce":true}');
+const gap = await sinceWhen((it) => (it > 100 && it < 200 ? null : it <= 150));
+is("what isn't told in between ends it", [gap.from, gap.before, gap.count].join(), "61,241,4");
+
+// --- Asking of the past -------------------------------------------------------------------------------------------------
+
+const waited = [], real = { fetch: globalThis.fetch, setTimeout: globalThis.setTimeout };
+/** What asking of a moment comes to, where these are the answers: `[status, document]`, or null where there is none. */
+async function asking(list, isDropped = () => false) {
+  const asked = [];
+  waited.length = 0;
+  globalThis.setTimeout = (call, after) => { waited.push(after); real.setTimeout(call); };
+  globalThis.fetch = async (target) => {
+    const told = list[Math.min(asked.push(target), list.length) - 1];
+    if (!told) throw new TypeError("no network");
+    return { ok: told[0] === 200, status: told[0], json: async () => told[1] };
+  };
+  const said = await askPast("app/compliance", 77, isDropped).then((it) => JSON.stringify(it), (fault) => fault.code);
+  Object.assign(globalThis, real);
+  return `${said} ${asked.length}`;
+}
+const busy = [503, { error: "busy" }], toldThen = [200, { at: 77 }];
+is("what stood then", await asking([toldThen]), '{"at":77} 1');
+is("behind a server that is busy", await asking([busy, busy, busy, toldThen]), '{"at":77} 4');
+is("each time later", waited.join(), WAITS.slice(0, 3).join());
+is("which isn't for ever", await asking([busy]), `busy ${WAITS.length + 1}`);
+ok("but for less than a minute", waited.join() === WAITS.join() && WAITS.reduce((sum, it) => sum + it) < 60_000, waited);
+is("no server", await asking([null, toldThen]), "unreachable 1");
+is("none behind a proxy", await asking([[504, null], toldThen]), "unreachable 1");
+is("no memory", await asking([[503, { error: "no_memory" }], toldThen]), "no_memory 1");
+is("not kept", await asking([[410, { error: "not_kept" }], toldThen]), "not_kept 1");
+is("by the server's clock to come", await asking([[409, { error: "future" }], toldThen]), "future 1");
+is("a server that tells of now", await asking([[200, { at: 78 }]]), "untold 1");
+is("one without the path", await asking([[404, { error: "no_route" }]]), "untold 1");
+is("an operator that there isn't", await asking([[404, { error: "not_found" }]]), "not_found 1");
+is("dropped before", await asking([toldThen], () => true), "null 0");
+let looks = 0;
+is("dropped while the server is busy", await asking([busy, toldThen], () => looks++ > 0), "null 1");
+const order = [];
+await Promise.all([inTurn(async () => { await new Promise((then) => { setTimeout(then, 20); }); order.push(1); throw new Error("no"); }).catch(() => order.push("!")),
+  inTurn(async () => order.push(2))]);
+is("one behind another, also behind one that fails", order.join(), "1,!,2");
 
 // --- Likely mistakes ----------------------------------------------------------------------------------------------------
 

@@ -5,3 +5,4 @@ pub mod Exit
 pub mod Script
 pub mod Compaction
 pub mod Messages
+pub mod OperatorWords

@@ -8,7 +8,10 @@ use crate::messages::report_cut;
 use cli_args::ThinOptions;
 use journal_compaction::{CompactFault, Counts, compact_folder};
 use journal_file::{FileStorage, HasLogEnd, Journal};
-use journal_folder::{CutFiles, Folder, FolderFault, Folders, check_archive, open_folder};
+use journal_folder::{
+    CutFiles, Folder, FolderFault, Folders, RecordedCompactions, check_archive, open_compactions,
+    open_folder,
+};
 use mds_text::Moment;
 use server_admission::{MachineClock, Moments};
 use std::alloc::AllocGlobal;
@@ -76,6 +79,34 @@ pub fn check_archive_of<R: Files<File = File>>(
     }
 }
 
+/// Sees to it that the folder of a city whose journal this program has, and is whole, has a file `compactions`. Reports
+/// where it was damaged, and where it can't be read or written: then less is told of the past, or nothing.
+///
+/// # Errors
+///
+/// `Folder` where something that is no file stands in its place, `NoMemory`.
+pub fn ensure_compactions<R: Folders + Eprint + AllocGlobal>(
+    rt: &R,
+    folder: &str,
+) -> Result<(), ExitCause> {
+    match open_compactions(rt, rt.alloc(), folder) {
+        Ok(RecordedCompactions::Whole | RecordedCompactions::Missing) => {}
+        Ok(RecordedCompactions::Damaged) => {
+            let _ = eprintln!(rt;
+                "ruffletuff: the file compactions is damaged, and kept as compactions.damaged: what stood before the journal's latest entry isn't told any more"
+            );
+        }
+        Err(FolderFault::NoMemory) => return Err(ExitCause::NoMemory),
+        Err(FolderFault::Linked) => return Err(ExitCause::Folder(FolderFault::Linked)),
+        Err(_) => {
+            let _ = eprintln!(rt;
+                "ruffletuff: the file compactions can't be read or written: what stood in the past isn't told"
+            );
+        }
+    }
+    Ok(())
+}
+
 /// Whether a journal has no record: it was made by a start that was killed before it wrote the head.
 fn is_unbegun<L: HasLogEnd>(log: &L) -> bool
     ensures { (list : List (List ℕ)) → L.may_be log.now list → result ≡ is_unbegun list }
@@ -84,13 +115,14 @@ fn is_unbegun<L: HasLogEnd>(log: &L) -> bool
 }
 
 /// Cuts what isn't whole off the end of a folder's journal that no server has. As `serve` does, it keeps that next to
-/// the journal first, and then reports it. Returns whether the journal has no record.
+/// the journal first, and then reports it; and it sees to it that the folder has a file `compactions`, where the journal
+/// has a record. Returns whether the journal has no record.
 ///
 /// # Errors
 ///
 /// `Folder` where another program has the folder, the journal is damaged, or what is to be cut can't be kept;
 /// `NoMemory`.
-fn cut_and_report<R: Files<File = File> + Eprint + AllocGlobal>(
+fn cut_and_report<R: Folders + Files<File = File> + Eprint + AllocGlobal>(
     rt: &R,
     folder: &str,
 ) -> Result<bool, ExitCause> {
@@ -105,7 +137,11 @@ fn cut_and_report<R: Files<File = File> + Eprint + AllocGlobal>(
         Err(fault) => return Err(ExitCause::Folder(FolderFault::from(fault))),
     };
     report_cut(rt, log.cut());
-    Ok(is_unbegun(&log))
+    let is_unbegun = is_unbegun(&log);
+    if !is_unbegun {
+        ensure_compactions(rt, folder)?;
+    }
+    Ok(is_unbegun)
 }
 
 /// Compacts the journal of a folder, by the text of its configuration. What can't be finished is removed.
@@ -164,7 +200,8 @@ fn compact_records<R: Wait + Folders + Files<File = File> + Clock + AllocGlobal 
 ///
 /// `Misconfigured`; `NoArchive` where there is no such folder; `NotArchived` where the journal can't be kept there;
 /// `Folder` where there is no journal, another program has the folder, or the journal is damaged;
-/// `Refused` where the configuration doesn't fit it; `NotThinned` where the disk has no room for the compacted one;
+/// `Refused` where the configuration doesn't fit it; `NotThinned` where the compacted one can't be written, or the
+/// compaction can't be recorded;
 /// `Differs`; `NoMemory`. The journal's records stay as they were. `NotPrinted` where it is compacted.
 pub fn compact<R>(rt: &R, asked: &ThinOptions<'_>) -> Result<(), ExitCause>
 where

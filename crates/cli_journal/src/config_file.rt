@@ -1,5 +1,5 @@
 //! A configuration's file: its text, findings in it, and the rule in the place of its zone's name.
-ghost use Rattle.std.specs.Prelude.{◌≡◌, ◌≤◌, length, IfOk};
+ghost use Rattle.std.specs.Prelude.{◌≡◌, ◌≤◌, length, option_map, IfOk};
 ghost use Rattle.std.specs.List.{list_any};
 ghost use Rattle.cli_journal.specs.Configuring.{is_no_oversight, is_no_page, refused_by};
 ghost use Rattle.mds_script.specs.declared.gather.TheConstants.{LINE_LIMIT};
@@ -125,6 +125,16 @@ impl ConfigFile {
             None => ResolvedZone::Plain,
         };
         Ok(ConfigFile { text, zone, zoned })
+    }
+
+    /// The name of the zone, where it goes by a name.
+    pub fn zone_name(&self) -> Option<&str>
+        ensures { option_map (λ name. name.now) result ≡ self.now.zone }
+    {
+        match &self.zone {
+            Some(name) => Some(name.as_str()),
+            None => None,
+        }
     }
 
     /// The text to be read as a configuration: with the rule in the place of the zone's name.

@@ -8,10 +8,13 @@ mod configuration;
 mod exit_cause;
 mod integrity;
 mod messages;
+mod operator_words;
 mod report_fault;
 mod script;
 
-pub use compaction::{check_archive_of, clear, compact, journal_length, moment};
+pub use compaction::{
+    check_archive_of, clear, compact, ensure_compactions, journal_length, moment,
+};
 pub use config_file::ConfigFile;
 pub use configuration::{
     configuration_in, configuration_text, operator_names_in, read_text_and_report,

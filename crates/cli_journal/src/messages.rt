@@ -4,6 +4,7 @@ ghost use Rattle.cli_args.specs.Commands.{asked_view};
 ghost use Rattle.cli_journal.specs.Messages.{config_of, listener_of, control_of, folder_of, archive_of, journal_at, report_place, place_in};
 
 use crate::exit_cause::ExitCause;
+use crate::operator_words::{report_name, report_operators};
 use crate::report_fault::ReportFault;
 use cli_args::{CliCommand, usage_of};
 use journal_entry::Unfit;
@@ -11,6 +12,7 @@ use journal_file::CutTail;
 use journal_folder::FolderFault;
 use journal_recovery::{Cause, Fault};
 use std::alloc::AllocGlobal;
+use std::fs::{File, Files};
 use std::io::Eprint;
 
 /// The file of the configuration.
@@ -125,21 +127,31 @@ fn place_in<'a>(asked: &CliCommand<'a>, ending: &ExitCause) -> Option<&'a str>
 }
 
 /// Reports what went wrong, and where.
-pub fn report_exit<R: Eprint + AllocGlobal>(rt: &R, asked: &CliCommand<'_>, ending: &ExitCause) {
+pub fn report_exit<R: Files<File = File> + Eprint + AllocGlobal>(
+    rt: &R,
+    asked: &CliCommand<'_>,
+    ending: &ExitCause,
+) {
     let message = ending.message();
     let _ = match place_in(asked, ending) {
         Some(place) => eprintln!(rt; "{message}: {place}"),
         None => eprintln!(rt; "{message}"),
     };
-    explain(rt, ending);
+    explain(rt, asked, ending);
 }
 
-/// Reports that the arguments are wrong, and prints how the command is called that they begin.
-pub fn report_usage<R: Eprint>(rt: &R, words: &[String], ending: &ExitCause) {
+/// Reports that the arguments are wrong, and prints how the command is called that they begin. Where an operator is given by
+/// another word than an identifier, the configuration's operators are reported.
+pub fn report_usage<R: Files<File = File> + Eprint + AllocGlobal>(
+    rt: &R,
+    words: &[String],
+    ending: &ExitCause,
+) {
     let message = ending.message();
     let usage = usage_of(words);
     let _ = eprintln!(rt; "{message}");
     let _ = eprintln!(rt; "usage: ruffletuff {usage} (ruffletuff --help says more)");
+    report_name(rt, words);
 }
 
 /// Reports what was cut off a journal.
@@ -152,7 +164,11 @@ pub fn report_cut<R: Eprint>(rt: &R, cut: Option<CutTail>) {
 }
 
 /// Reports the details of a fault, where there are any.
-fn explain<R: Eprint + AllocGlobal>(rt: &R, ending: &ExitCause) {
+fn explain<R: Files<File = File> + Eprint + AllocGlobal>(
+    rt: &R,
+    asked: &CliCommand<'_>,
+    ending: &ExitCause,
+) {
     match ending {
         ExitCause::Misconfigured(detail) => {
             let _ = eprintln!(rt; "{detail}");
@@ -168,7 +184,7 @@ fn explain<R: Eprint + AllocGlobal>(rt: &R, ending: &ExitCause) {
         ExitCause::NotArchived(fault) => {
             let _ = eprintln!(rt; "{fault}");
         }
-        ExitCause::Report(fault) => explain_report(rt, fault),
+        ExitCause::Report(fault) => explain_report(rt, asked, fault),
         _ => {}
     }
 }
@@ -184,12 +200,20 @@ fn explain_folder<R: Eprint + AllocGlobal>(rt: &R, fault: &FolderFault) {
     }
 }
 
-/// Reports the operator that no report can be about, or the file that its folder has already.
-fn explain_report<R: Eprint + AllocGlobal>(rt: &R, fault: &ReportFault) {
+/// Reports the operator that no report can be about, with those that the configuration has, or the file that the report's
+/// folder has already.
+fn explain_report<R: Files<File = File> + Eprint + AllocGlobal>(
+    rt: &R,
+    asked: &CliCommand<'_>,
+    fault: &ReportFault,
+) {
     match fault {
         ReportFault::NoOperator(id) => {
             if let Ok(id) = id.print(rt.alloc()) {
                 let _ = eprintln!(rt; "operator {id} isn't in it");
+            }
+            if let Some(path) = report_place(asked, fault) {
+                report_operators(rt, path);
             }
         }
         ReportFault::Present(file) => {

@@ -22,7 +22,7 @@ one_more IsText all left after group first old new is so_far made = (
   made.2 ∙ ap (λ s. s ++ made.0) so_far.2 ∙ append_assoc first so_far.0 made.0,
 )
 
-none : (left : List DaySample) → length left ≡ 0 → left ≡ []
+pub none : (left : List DaySample) → length left ≡ 0 → left ≡ []
 none [] h = refl
 none (s ∷ left) h = grind arith
 

@@ -2,5 +2,8 @@ mod Dayed
 mod Groups
 mod Guarded
 mod Longest
+mod Marked
 mod Rowed
+mod Ruled
 mod Spelled
+mod Written

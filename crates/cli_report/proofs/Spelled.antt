@@ -29,3 +29,13 @@ one_more IsText xs i x first old new within is so_far made = (
       (spelled_more IsText (take i xs) so_far.0 x made.0 so_far.1 made.1),
   made.2 ∙ ap (λ s. s ++ made.0) so_far.2 ∙ append_assoc first so_far.0 made.0,
 )
+
+-- one more, of which it is said where it stands
+pub one_more_at : {A : Type 0} (IsText : A → List ℕ → Type 0) (xs : List A) (i : ℕ) (d : A) (first old new : List ℕ) → i < length xs
+    → Appends (Spells IsText (take i xs)) first old → Appends (IsText (get_or xs i d)) old new → Appends (Spells IsText (take (i + 1) xs)) first new
+one_more_at IsText xs i d first old new within so_far made = (
+  so_far.0 ++ made.0,
+  subst (λ ys. Spells IsText ys (so_far.0 ++ made.0)) (sym (take_more xs i d within))
+      (spelled_more IsText (take i xs) so_far.0 (get_or xs i d) made.0 so_far.1 made.1),
+  made.2 ∙ ap (λ s. s ++ made.0) so_far.2 ∙ append_assoc first so_far.0 made.0,
+)

@@ -10,13 +10,13 @@ use Rattle.cli_report.specs.Texts.{Spells}
 use Rattle.cli_report.specs.declared.cell.CellValue as program
 use Rattle.cli_report.specs.declared.cell.CellValue.TheVariants as cell
 
--- what a cell tells: a text, an identifier, a number, a bound where there is one, a moment in UTC, a moment in the city's
+-- what a cell tells: a text, an identifier, a number, a number where there is one, a moment in UTC, a moment in the city's
 -- zone where there is one, and the local day of a moment
 pub data Cell : Type 0 where
   text : List ℕ → Cell
   identifier : List ℕ → Cell
   number : ℕ → Cell
-  bound : Option ℕ → Cell
+  number_if : Option ℕ → Cell
   utc : ℕ → Cell
   local : Option ℕ → Cell
   day : ℕ → Cell
@@ -26,14 +26,15 @@ abbrev pub cell_view : program.CellValue → Cell
 cell_view (cell.Text bytes) = text bytes.now
 cell_view (cell.Id id) = identifier id
 cell_view (cell.Number n) = number n
-cell_view (cell.Bound limit) = bound limit
+cell_view (cell.Bound limit) = number_if limit
+cell_view (cell.NumberIf n) = number_if n
 cell_view (cell.Utc t) = utc t
 cell_view (cell.Local moment) = local moment
 cell_view (cell.Day t) = day t
 
-abbrev pub bound_text : Option ℕ → List ℕ
-bound_text None = []
-bound_text (Some n) = decimal n
+abbrev pub number_text_if : Option ℕ → List ℕ
+number_text_if None = []
+number_text_if (Some n) = decimal n
 
 abbrev pub IsLocalIf : ZoneKind → Option ℕ → List ℕ → Type 0
 IsLocalIf zone None bytes = bytes ≡ []
@@ -44,7 +45,7 @@ abbrev pub IsText : ZoneKind → Cell → List ℕ → Type 0
 IsText zone (text s) bytes = bytes ≡ s
 IsText zone (identifier id) bytes = bytes ≡ hyphenated_text lower id
 IsText zone (number n) bytes = bytes ≡ decimal n
-IsText zone (bound limit) bytes = bytes ≡ bound_text limit
+IsText zone (number_if n) bytes = bytes ≡ number_text_if n
 IsText zone (utc t) bytes = IsUtc t bytes
 IsText zone (local moment) bytes = IsLocalIf zone moment bytes
 IsText zone (day t) bytes = IsDay (clock_at zone t / 86400) bytes

@@ -1,5 +1,5 @@
 -- The samples of a rule's local days, and what they come to.
-use Rattle.std.specs.Prelude.{ℕ, ◌/◌, ◌==◌, List, [], ◌∷◌, Bool, true, false, ◌&&◌, bytes_eq, filter, length, nat_le, if◌then◌else◌, max, fold, take_while}
+use Rattle.std.specs.Prelude.{ℕ, ◌/◌, ◌==◌, List, [], ◌∷◌, Bool, true, false, ◌&&◌, bytes_eq, filter, length, nat_le, if◌then◌else◌, max, min, fold, take_while, Option, Some, None}
 use Rattle.std.specs.Cmp.Lexicographic.{slice_cmp}
 use Rattle.std.specs.List.Sorted.{IsPermutation, IsSorted}
 use Rattle.std.specs.Ordering.{nat_cmp, ordering_then}
@@ -46,20 +46,27 @@ pub record IsOrdered (samples ordered : List DaySample) : Type 0 where
   pub same : IsPermutation samples ordered
   pub ascend : IsSorted sample_cmp ordered
 
--- of the same rule and day
+-- samples in order, those of them together that go together with the next one
+abbrev pub joined : (DaySample → DaySample → Bool) → DaySample → List (List DaySample) → List (List DaySample)
+joined together s [] = (s ∷ []) ∷ []
+joined together s ([] ∷ groups) = (s ∷ []) ∷ groups
+joined together s ((next ∷ group) ∷ groups) =
+    if together s next then (s ∷ next ∷ group) ∷ groups else (s ∷ []) ∷ (next ∷ group) ∷ groups
+
+abbrev pub grouped_by : (DaySample → DaySample → Bool) → List DaySample → List (List DaySample)
+grouped_by together [] = []
+grouped_by together (s ∷ samples) = joined together s (grouped_by together samples)
+
+-- of the same rule, and of the same rule and day
+abbrev pub is_of_rule : DaySample → DaySample → Bool
+is_of_rule a b = bytes_eq a.policy b.policy && (a.number == b.number)
+
 abbrev pub is_beside : DaySample → DaySample → Bool
 is_beside a b = bytes_eq a.policy b.policy && (a.number == b.number) && (a.day == b.day)
 
 -- samples in order, those of each rule and day together
-abbrev pub joined : DaySample → List (List DaySample) → List (List DaySample)
-joined s [] = (s ∷ []) ∷ []
-joined s ([] ∷ groups) = (s ∷ []) ∷ groups
-joined s ((next ∷ group) ∷ groups) =
-    if is_beside s next then (s ∷ next ∷ group) ∷ groups else (s ∷ []) ∷ (next ∷ group) ∷ groups
-
 abbrev pub grouped : List DaySample → List (List DaySample)
-grouped [] = []
-grouped (s ∷ samples) = joined s (grouped samples)
+grouped samples = grouped_by is_beside samples
 
 -- the violated samples in a row from the first one on
 abbrev pub leading : List DaySample → List DaySample
@@ -80,3 +87,15 @@ violations samples = filter (λ s. s.violated) samples
 
 abbrev pub greatest_measure : List DaySample → ℕ
 greatest_measure samples = fold (λ most s. max s.measure most) 0 samples
+
+-- the samples in which the rule was open: others have no measure
+abbrev pub open_ones : List DaySample → List DaySample
+open_ones samples = filter (λ s. s.judged) samples
+
+-- the least measure of samples, where there are any
+abbrev pub lesser : Option ℕ → ℕ → ℕ
+lesser None n = n
+lesser (Some least) n = min n least
+
+abbrev pub least_measure : List DaySample → Option ℕ
+least_measure samples = fold (λ least s. Some (lesser least s.measure)) None samples

@@ -1,8 +1,12 @@
 pub mod Cells
 pub mod Csv
 pub mod Days
+pub mod Excess
+pub mod Lines
 pub mod Names
 pub mod Page
+pub mod Pieces
 pub mod Ranks
 pub mod Rows
+pub mod Since
 pub mod Texts

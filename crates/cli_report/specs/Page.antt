@@ -1,26 +1,67 @@
--- The page: texts in HTML, bounds in words, and whose section is where.
-use Rattle.std.specs.Prelude.{◌≡◌, ℕ, ◌==◌, List, [], ◌∷◌, ◌++◌, Bool, true, false, codes, if◌then◌else◌, Option, Some, None}
+-- The page: its head, and an operator's section with its rules, the most often violated one first.
+use Rattle.std.specs.Prelude.{ℕ, ◌/◌, ◌==◌, List, [], ◌∷◌, ◌++◌, Bool, true, false, codes, length, map, if◌then◌else◌, Option, Some, None}
 use Rattle.std.specs.Fmt.{decimal}
 use Rattle.std.specs.List.{flat_map}
-use Rattle.uuid.specs.Text.{hyphenated_text, lower}
+use Rattle.mds_match.specs.Zone.{ZoneKind}
+use Rattle.mds_policy.specs.Policy.{Policy, Rule}
 use Rattle.mds_policy.specs.declared.rule.Bounds.{Bounds}
 use Rattle.mds_policy.specs.declared.rule.Kind.{Kind}
 use Rattle.mds_policy.specs.declared.rule.Kind.TheVariants.{Count, Time, Other}
 use Rattle.mds_policy.specs.declared.rule.TimeUnit.TheVariants.{Seconds, Minutes, Hours, Days}
+use Rattle.journal_samples.specs.declared.sample.RuleSample.{RuleSample}
+use Rattle.cli_report.specs.Cells.{text, identifier, number, local, day}
+use Rattle.cli_report.specs.Days.{IsOrdered, day_sample, grouped, violations}
+use Rattle.cli_report.specs.Excess.{worst_text}
+use Rattle.cli_report.specs.Lines.{marks}
+use Rattle.cli_report.specs.Names.{Label, label_of}
+use Rattle.cli_report.specs.Pieces.{IsWritten, Piece, markup, value}
+use Rattle.cli_report.specs.Ranks.{AreRanked, samples_of}
 use Rattle.cli_report.specs.Rows.{Operator}
+use Rattle.cli_report.specs.Since.{is_violated_at, may_be_before, violated_since}
+use Rattle.cli_report.specs.declared.days.DaySample.{DaySample}
+use Rattle.cli_report.specs.declared.page.TheConstants.{HEAD, LEGEND}
+use Rattle.cli_report.specs.declared.ranking.RuleSpan.{RuleSpan}
+use Rattle.cli_report.specs.declared.reported.ReportHead as lent
+use Rattle.cli_report.specs.declared.reported.ReportSpan.{ReportSpan}
 
--- a byte of a text: the five that mean something in HTML are written as references (HTML, section 13.5)
-abbrev pub escaped_byte : ℕ → List ℕ
-escaped_byte b =
-    if b == 38 then codes "&amp;"
-    else if b == 60 then codes "&lt;"
-    else if b == 62 then codes "&gt;"
-    else if b == 34 then codes "&quot;"
-    else if b == 39 then codes "&#39;"
-    else b ∷ []
+-- what a page says of its report: the city's title, which may be empty, the zone, when it was made, where that is known, by
+-- which program, and its first and last moment, and how many milliseconds moments are apart
+pub record Head : Type 0 where
+  pub city : List ℕ
+  pub zone : List ℕ
+  pub made : Option ℕ
+  pub program : List ℕ
+  pub span : ReportSpan
 
-abbrev pub escaped : List ℕ → List ℕ
-escaped bytes = flat_map escaped_byte bytes
+abbrev pub head_view : lent.ReportHead → Head
+head_view h = record { city = h.city.now; zone = h.zone.now; made = h.made; program = h.program.now; span = h.span }
+
+-- nothing where a city has no title
+abbrev pub city_pieces : List ℕ → List Piece
+city_pieces title =
+    if length title == 0 then []
+    else markup (codes "<tr><th>City</th><td>") ∷ value (text title) ∷ markup (codes "</td></tr>\n") ∷ []
+
+abbrev pub minutes_text : ℕ → List ℕ
+minutes_text n = if n == 1 then codes " minute" else codes " minutes"
+
+abbrev pub moments_with : Head → (minutes : List ℕ) → List Piece
+moments_with h minutes =
+    markup (codes "<tr><th>Time zone</th><td>") ∷ value (text h.zone)
+    ∷ markup (codes "</td></tr>\n<tr><th>First sample</th><td>") ∷ value (local (Some h.span.first))
+    ∷ markup (codes "</td></tr>\n<tr><th>Last sample</th><td>") ∷ value (local (Some h.span.last))
+    ∷ markup (codes "</td></tr>\n<tr><th>Sampled every</th><td>") ∷ value (number (h.span.every / 60000))
+    ∷ markup minutes
+    ∷ markup (codes "</td></tr>\n<tr><th>Made</th><td>") ∷ value (local h.made)
+    ∷ markup (codes "</td></tr>\n<tr><th>By</th><td>") ∷ value (text h.program)
+    ∷ markup (codes "</td></tr>\n") ∷ markup LEGEND.now ∷ []
+
+abbrev pub moments_pieces : Head → List Piece
+moments_pieces h = moments_with h (minutes_text (h.span.every / 60000))
+
+-- what a page begins with, from its style to what its signs mean
+abbrev pub head_pieces : Head → List Piece
+head_pieces h = markup HEAD.now ∷ city_pieces h.city ++ moments_pieces h
 
 -- the words for a bound, whether or not it is within itself
 abbrev pub least_text : Bool → ℕ → List ℕ
@@ -49,19 +90,86 @@ unit_text Other = codes " (not evaluated)"
 abbrev pub bounds_text : Kind → Bounds → List ℕ
 bounds_text kind b = limits_text b b.minimum b.maximum ++ unit_text kind
 
--- an operator's section begins with its name and its identifier
-abbrev pub name_text : Operator → List ℕ
-name_text o = codes "<section>\n<h2>" ++ escaped o.name
+-- what stands behind a rule's number: its bounds, and by how much violated samples are outside of them
+abbrev pub limits_behind : Option Rule → List ℕ
+limits_behind None = []
+limits_behind (Some rule) = codes ": " ++ bounds_text rule.kind rule.bounds
 
-abbrev pub id_text : Operator → List ℕ
-id_text o = codes " <small>" ++ hyphenated_text lower o.id ++ codes "</small></h2>\n"
+abbrev pub worst_behind : Option Rule → List DaySample → List ℕ
+worst_behind None violated = []
+worst_behind (Some rule) violated = worst_text rule.kind rule.bounds violated
 
-abbrev pub section_head : Operator → List ℕ
-section_head o = name_text o ++ id_text o
+-- a rule's titles, by its names and identifiers
+abbrev pub title_pieces : Label → DaySample → List Piece
+title_pieces label s =
+    markup (codes "<h3>") ∷ value (text label.name) ∷ markup (codes " <small>") ∷ value (identifier s.rule)
+    ∷ markup (codes "</small></h3>\n<p>Policy ") ∷ value (text label.policy) ∷ markup (codes " <small>") ∷ value (identifier s.policy)
+    ∷ markup (codes "</small>, rule ") ∷ value (number s.number) ∷ []
 
-abbrev pub section_text : Operator → List ℕ → List ℕ
-section_text o body = section_head o ++ body ++ codes "</section>\n"
+-- its bounds, how often it was violated, and by how much
+abbrev pub counts_pieces : (limits worst : List ℕ) (violated count : ℕ) → List Piece
+counts_pieces limits worst violated count =
+    markup limits ∷ markup (codes ". Violated in ") ∷ value (number violated) ∷ markup (codes " of ") ∷ value (number count)
+    ∷ markup (codes " samples.") ∷ markup worst ∷ markup (codes "</p>\n") ∷ []
 
--- what is added is an operator's section
-abbrev pub AddsSection : Operator → List ℕ → List ℕ → Type 0
-AddsSection o old new = (body : List ℕ) × (new ≡ old ++ section_text o body)
+abbrev pub judgment_pieces : Option Rule → List DaySample → List Piece
+judgment_pieces rule samples =
+    counts_pieces (limits_behind rule) (worst_behind rule (violations samples)) (length (violations samples)) (length samples)
+
+-- where it is violated at the report's last moment, since when it is
+abbrev pub before_text : Bool → List ℕ
+before_text true = codes " or before"
+before_text false = []
+
+abbrev pub since_pieces : Option ℕ → Bool → List Piece
+since_pieces since before =
+    markup (codes "<p>Violated at the report's end, and whenever the rule was open since ") ∷ value (local since)
+    ∷ markup (before_text before) ∷ markup (codes ".</p>\n") ∷ []
+
+abbrev pub end_pieces : ReportSpan → List DaySample → List Piece
+end_pieces span samples =
+    if is_violated_at span.last samples then since_pieces (violated_since samples) (may_be_before span.first samples) else []
+
+-- a line for a day: the day, its drawing with marks at 6, 12 and 18 o'clock, and how many of its samples are violated
+abbrev pub line_pieces : ℕ → List ℕ → ℕ → ℕ → List Piece
+line_pieces t drawn violated count =
+    markup (codes "<tr><th>") ∷ value (day t)
+    ∷ markup (codes "</th><td><svg viewBox=\"0 0 1440 12\" preserveAspectRatio=\"none\">"
+    ++ codes "<path d=\"M360 0v12M720 0v12M1080 0v12\"/>")
+    ∷ markup drawn ∷ markup (codes "</svg></td><td>") ∷ value (number violated) ∷ markup (codes " of ") ∷ value (number count)
+    ∷ markup (codes "</td></tr>\n") ∷ []
+
+abbrev pub day_pieces : ZoneKind → ℕ → List DaySample → List Piece
+day_pieces zone every [] = []
+day_pieces zone every (s ∷ samples) =
+    line_pieces s.at (marks zone every (s ∷ samples)) (length (violations (s ∷ samples))) (length (s ∷ samples))
+
+abbrev pub days_pieces : ZoneKind → ℕ → List DaySample → List Piece
+days_pieces zone every samples =
+    markup (codes "<table>\n") ∷ flat_map (day_pieces zone every) (grouped samples) ++ markup (codes "</table>\n") ∷ []
+
+-- a rule, by its samples in order: its titles, what is said of it, and a line for each of its days
+abbrev pub rule_pieces : ZoneKind → ReportSpan → List Policy → List DaySample → List Piece
+rule_pieces zone span policies [] = []
+rule_pieces zone span policies (s ∷ samples) =
+    title_pieces (label_of policies s.policy s.number) s
+    ++ judgment_pieces (label_of policies s.policy s.number).rule (s ∷ samples)
+    ++ end_pieces span (s ∷ samples) ++ days_pieces zone span.every (s ∷ samples)
+
+-- an operator's section: its name and identifier, and its rules
+abbrev pub name_pieces : Operator → List Piece
+name_pieces o =
+    markup (codes "<section>\n<h2>") ∷ value (text o.name) ∷ markup (codes " <small>") ∷ value (identifier o.id)
+    ∷ markup (codes "</small></h2>\n") ∷ []
+
+abbrev pub rules_pieces : ZoneKind → ReportSpan → List Policy → List DaySample → List RuleSpan → List Piece
+rules_pieces zone span policies ordered rules = flat_map (λ r. rule_pieces zone span policies (samples_of ordered r)) rules
+
+abbrev pub section_pieces : ZoneKind → ReportSpan → Operator → List Policy → List DaySample → List RuleSpan → List Piece
+section_pieces zone span o policies ordered rules =
+    name_pieces o ++ rules_pieces zone span policies ordered rules ++ markup (codes "</section>\n") ∷ []
+
+abbrev pub IsSection : ZoneKind → ReportSpan → Operator → List Policy → List RuleSample → List ℕ → Type 0
+IsSection zone span o policies samples bytes =
+    (ordered : List DaySample) × (rules : List RuleSpan) × IsOrdered (map (day_sample zone) samples) ordered × AreRanked ordered rules
+    × IsWritten zone (section_pieces zone span o policies ordered rules) bytes

@@ -1,11 +1,14 @@
 -- The rows of a report: of each sample, and of each rule and local day.
 use Rattle.std.specs.Prelude.{ℕ, ◌-◌, List, [], ◌∷◌, ◌++◌, codes, length, map, slice_get, Option, Some, option_and_then, option_map}
 use Rattle.mds_match.specs.Zone.{ZoneKind}
+use Rattle.std.specs.Option.{option_map_or}
 use Rattle.mds_policy.specs.Policy.{Policy}
+use Rattle.mds_policy.specs.declared.rule.Kind.{Kind}
+use Rattle.mds_policy.specs.declared.rule.Kind.TheVariants.{Count, Time, Other}
 use Rattle.mds_verdict.specs.Verdict.{status_name}
 use Rattle.journal_samples.specs.declared.sample.RuleSample.{RuleSample}
-use Rattle.cli_report.specs.Cells.{Cell, text, identifier, number, bound, utc, local, day, IsRow}
-use Rattle.cli_report.specs.Days.{IsOrdered, day_sample, greatest_measure, grouped, longest, violations}
+use Rattle.cli_report.specs.Cells.{Cell, text, identifier, number, number_if, utc, local, day, IsRow}
+use Rattle.cli_report.specs.Days.{IsOrdered, day_sample, greatest_measure, grouped, least_measure, longest, open_ones, violations}
 use Rattle.cli_report.specs.Names.{Label, label_of}
 use Rattle.cli_report.specs.Texts.{Spells}
 use Rattle.cli_report.specs.declared.days.DaySample.{DaySample}
@@ -31,14 +34,25 @@ minimum label = option_and_then (λ rule. rule.bounds.minimum) label.rule
 abbrev pub maximum : Label → Option ℕ
 maximum label = option_and_then (λ rule. rule.bounds.maximum) label.rule
 
+-- the unit of its bounds, in the words of its document; a count rule's are vehicles, whatever its document says
+abbrev pub kind_units : Kind → List ℕ → List ℕ
+kind_units Count words = []
+kind_units (Time unit) words = words
+kind_units Other words = words
+
+abbrev pub units : Label → List ℕ
+units label = option_map_or (λ rule. kind_units rule.kind label.units) label.rule []
+
 abbrev pub verdict_cells : Operator → Label → RuleSample → List Cell
 verdict_cells o label s =
     utc s.at ∷ local (Some s.at) ∷ rule_cells o label s.policy s.number s.rule
-    ++ text (status_name s.status) ∷ number s.measure ∷ bound (minimum label) ∷ bound (maximum label) ∷ []
+    ++ text (status_name s.status) ∷ number s.measure ∷ number_if (minimum label) ∷ number_if (maximum label) ∷ text (units label) ∷ []
 
 -- the names of the columns
 abbrev pub verdict_header : List ℕ
-verdict_header = codes "moment,local,operator_id,operator_name,policy_id,policy_name,rule_number,rule_id,rule_name,status,measure,minimum,maximum\r\n"
+verdict_header =
+    codes "moment,local,operator_id,operator_name,policy_id,policy_name,rule_number,rule_id,rule_name,"
+    ++ codes "status,measure,minimum,maximum,units\r\n"
 
 -- the row of a sample
 abbrev pub verdict_row : Operator → List Policy → RuleSample → List Cell
@@ -57,7 +71,7 @@ last_moment samples = option_map (λ s. s.at) (slice_get samples (length samples
 abbrev pub summary_header : List ℕ
 summary_header =
     codes "operator_id,operator_name,policy_id,policy_name,rule_number,rule_id,rule_name,day,samples,violated,"
-    ++ codes "longest,longest_first,longest_last,first_violated,last_violated,greatest_measure\r\n"
+    ++ codes "longest,longest_first,longest_last,first_violated,last_violated,greatest_measure,least_measure\r\n"
 
 -- what the samples of a rule's day come to
 abbrev pub tally_of : List DaySample → Tally
@@ -71,12 +85,13 @@ tally_of samples =
       first_violated = first_moment (violations samples);
       last_violated = last_moment (violations samples);
       greatest_measure = greatest_measure samples;
+      least_measure = least_measure (open_ones samples);
     }
 
 abbrev pub tally_cells : Tally → List Cell
 tally_cells t =
     number t.samples ∷ number t.violated ∷ number t.longest ∷ local t.longest_first ∷ local t.longest_last
-    ∷ local t.first_violated ∷ local t.last_violated ∷ number t.greatest_measure ∷ []
+    ∷ local t.first_violated ∷ local t.last_violated ∷ number t.greatest_measure ∷ number_if t.least_measure ∷ []
 
 abbrev pub day_cells : Operator → Label → DaySample → Tally → List Cell
 day_cells o label s tally = rule_cells o label s.policy s.number s.rule ++ day s.at ∷ tally_cells tally

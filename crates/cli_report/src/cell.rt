@@ -4,7 +4,7 @@ ghost use Rattle.std.specs.Fmt.{decimal};
 ghost use Rattle.uuid.specs.Text.{hyphenated_text, lower};
 ghost use Rattle.cli_calendar.specs.Clocks.{clock_at};
 ghost use Rattle.cli_calendar.specs.Texts.{IsDay};
-ghost use Rattle.cli_report.specs.Cells.{IsLocalIf, IsText, bound_text, cell_view};
+ghost use Rattle.cli_report.specs.Cells.{IsLocalIf, IsText, cell_view, number_text_if};
 
 use cli_calendar::{clock_at, date_text, local_text, utc_text};
 use mds_match::Zone;
@@ -25,6 +25,8 @@ pub(crate) enum CellValue<'a> {
     Number(u64),
     /// A bound, where there is one.
     Bound(Option<u32>),
+    /// A number, where there is one.
+    NumberIf(Option<u64>),
     /// A moment in UTC.
     Utc(Moment),
     /// A moment in the city's zone, where there is one.
@@ -58,10 +60,20 @@ pub(crate) fn id_text(alloc: Global, id: &Id) -> Result<Vec<u8>, AllocError>
 
 /// A bound in decimal digits; nothing where there is none.
 fn bound_text(alloc: Global, bound: &Option<u32>) -> Result<Vec<u8>, AllocError>
-    ensures { IfOk result (λ text. text.items ≡ bound_text bound.now) }
+    ensures { IfOk result (λ text. text.items ≡ number_text_if bound.now) }
 {
     match bound {
         Some(bound) => number_text(alloc, u64::from(*bound)),
+        None => Ok(Vec::new(alloc)),
+    }
+}
+
+/// A number in decimal digits; nothing where there is none.
+fn number_text_if(alloc: Global, number: &Option<u64>) -> Result<Vec<u8>, AllocError>
+    ensures { IfOk result (λ text. text.items ≡ number_text_if number.now) }
+{
+    match number {
+        Some(number) => number_text(alloc, *number),
         None => Ok(Vec::new(alloc)),
     }
 }
@@ -96,6 +108,7 @@ pub(crate) fn plain_text(
         CellValue::Id(id) => id_text(alloc, id),
         CellValue::Number(number) => number_text(alloc, *number),
         CellValue::Bound(bound) => bound_text(alloc, bound),
+        CellValue::NumberIf(number) => number_text_if(alloc, number),
         CellValue::Utc(at) => utc_text(alloc, *at),
         CellValue::Local(at) => local_text_if(alloc, zone, at),
         CellValue::Day(at) => day_text(alloc, zone, *at),

@@ -1,7 +1,7 @@
 //! The samples of a rule's local days.
 ghost use Rattle.std.specs.Prelude.{◌≡◌, ◌+◌, ◌-◌, ◌^◌, ◌≤◌, ◌<◌, ◌∷◌, drop, if◌then◌else◌, length, map, slice_index_or, take, IfOk};
-ghost use Rattle.cli_report.specs.Days.{IsOrdered, day_sample, grouped, greatest_measure};
-ghost use Rattle.cli_report.specs.Days.{is_beside, is_judged, is_violated, longest, violations};
+ghost use Rattle.cli_report.specs.Days.{IsOrdered, day_sample, grouped, greatest_measure, least_measure, lesser};
+ghost use Rattle.cli_report.specs.Days.{is_beside, is_judged, is_violated, longest, open_ones, violations};
 
 use cli_calendar::day_at;
 use journal_samples::RuleSample;
@@ -133,7 +133,6 @@ fn is_beside(one: &DaySample, other: &DaySample) -> bool
 }
 
 /// How many samples, from the first one on, are of one rule and day.
-#[tactic(auto, using(crate::proofs::Groups::at_first))]
 pub(crate) fn count_first(samples: &[DaySample]) -> usize
     requires { 0 < length samples.now }
     ensures group { grouped samples.now ≡ take result samples.now ∷ grouped (drop result samples.now) }
@@ -202,4 +201,42 @@ pub(crate) fn greatest_measure(samples: &[DaySample]) -> u64
         most = sample.measure.max(most);
     }
     most
+}
+
+/// The samples in which the rule was open: others have no measure.
+///
+/// # Errors
+///
+/// Out of memory.
+pub(crate) fn open_ones(alloc: Global, samples: &[DaySample]) -> Result<Vec<DaySample>, AllocError>
+    ensures { IfOk result (λ v. v.items ≡ open_ones samples.now) }
+{
+    let mut found = Vec::new(alloc);
+    for sample in samples {
+        if sample.judged {
+            found.push(*sample)?;
+        }
+    }
+    Ok(found)
+}
+
+/// The lesser one of a measure and of one before it, where there is one.
+fn lesser(known: Option<u64>, measure: u64) -> u64
+    ensures { result ≡ lesser known measure }
+{
+    match known {
+        Some(least) => measure.min(least),
+        None => measure,
+    }
+}
+
+/// The least measure of these samples, where there are any.
+pub(crate) fn least_measure(samples: &[DaySample]) -> Option<u64>
+    ensures { result ≡ least_measure samples.now }
+{
+    let mut least: Option<u64> = None;
+    for sample in samples {
+        least = Some(lesser(least, sample.measure));
+    }
+    least
 }

@@ -1,6 +1,6 @@
 //! Texts in HTML.
 ghost use Rattle.std.specs.Prelude.{◌≡◌, ◌++◌, OnOk};
-ghost use Rattle.cli_report.specs.Page.{escaped, escaped_byte};
+ghost use Rattle.cli_report.specs.Pieces.{escaped, escaped_byte};
 
 use std::alloc::AllocError;
 

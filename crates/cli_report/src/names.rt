@@ -4,7 +4,7 @@ ghost use Rattle.std.specs.Option.{option_map_or};
 ghost use Rattle.mds_text.specs.View.{view};
 ghost use Rattle.mds_policy.specs.Policy.{policy_document, rule_document};
 ghost use Rattle.mds_catalog.specs.Catalogue.{lent_policy, publications_of};
-ghost use Rattle.cli_report.specs.Names.{label_in, label_of, label_view, name_in, policies_in, rule_in, tree_policy};
+ghost use Rattle.cli_report.specs.Names.{label_in, label_of, label_view, name_in, policies_in, rule_in, tree_policy, units_in};
 
 use cli_documents::{list_member, text_member};
 use mds_catalog::{Catalogue, Published};
@@ -19,13 +19,15 @@ pub(crate) struct PolicyTree<'a> {
     tree: Tree,
 }
 
-/// The names of a policy and of a rule, and the rule. Contracts see a `Label`.
+/// The names of a policy and of a rule, its unit, and the rule. Contracts see a `Label`.
 #[derive(Clone, Copy)]
 pub(crate) struct RuleLabel<'a> {
     /// The policy's name; empty where it has none.
     pub(crate) policy: &'a [u8],
     /// The rule's name; empty where it has none.
     pub(crate) name: &'a [u8],
+    /// The unit in the rule's document; empty where it has none.
+    pub(crate) units: &'a [u8],
     /// The rule, where the policy is published.
     pub(crate) rule: Option<&'a Rule>,
 }
@@ -103,6 +105,26 @@ fn rule_name(document: &Tree, number: usize) -> &[u8]
     }
 }
 
+/// The unit in a rule's document; empty where it has none.
+fn units_in(document: &Tree) -> &[u8]
+    ensures { result.now ≡ units_in (view document.now) }
+{
+    match text_member(document, "rule_units") {
+        Some(units) => units.as_bytes(),
+        None => b"",
+    }
+}
+
+/// The unit of the rule with this number; empty where its document has none.
+fn rule_units(document: &Tree, number: usize) -> &[u8]
+    ensures { result.now ≡ option_map_or units_in (rule_in (view document.now) number) [] }
+{
+    match rule_in(document, number) {
+        Some(rule) => units_in(rule),
+        None => b"",
+    }
+}
+
 /// The rule with this number.
 fn rule_at(policy: &Policy, number: usize) -> Option<&Rule>
     ensures { option_map (λ r. rule_document r.now) result ≡ slice_get (policy_document policy.now).rules number }
@@ -117,6 +139,7 @@ fn label_in<'t>(known: &'t PolicyTree<'_>, number: usize) -> RuleLabel<'t>
     RuleLabel {
         policy: name_in(&known.tree),
         name: rule_name(&known.tree, number),
+        units: rule_units(&known.tree, number),
         rule: rule_at(known.policy, number),
     }
 }
@@ -130,6 +153,7 @@ pub(crate) fn label_of<'t>(trees: &'t [PolicyTree<'_>], policy: Id, number: usiz
         None => RuleLabel {
             policy: b"",
             name: b"",
+            units: b"",
             rule: None,
         },
     }

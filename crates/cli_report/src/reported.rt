@@ -16,13 +16,28 @@ pub struct ReportedOperator<'a> {
     pub catalogue: &'a Catalogue,
 }
 
-/// The moments of a report: from one to before another, so many milliseconds apart.
+/// The moments of a report: from one to another, so many milliseconds apart.
 #[derive(Clone, Copy)]
 pub struct ReportSpan {
     /// The first moment, in milliseconds since the Unix epoch.
-    pub from: Moment,
-    /// What all moments are before, in milliseconds since the Unix epoch.
-    pub to: Moment,
+    pub first: Moment,
+    /// The last one, in milliseconds since the Unix epoch.
+    pub last: Moment,
     /// The milliseconds between two moments.
     pub every: u64,
+}
+
+/// What a page says of its report.
+#[derive(Clone, Copy)]
+pub struct ReportHead<'a> {
+    /// The city's title, as bytes of UTF-8; empty where it has none.
+    pub city: &'a [u8],
+    /// The zone in which times are local, as bytes of UTF-8.
+    pub zone: &'a [u8],
+    /// When the report was made, in milliseconds since the Unix epoch; `None` where no clock said so.
+    pub made: Option<Moment>,
+    /// The program that made it, with its version, as bytes of UTF-8.
+    pub program: &'a [u8],
+    /// Its moments.
+    pub span: ReportSpan,
 }

@@ -9,8 +9,8 @@ ghost use Rattle.cli_report.specs.Texts.{Appends};
 
 use crate::cell::CellValue;
 use crate::days::{
-    DaySample, count_first, first_of, front_of, greatest_measure, longest_run, ordered_days,
-    rest_of, violations,
+    DaySample, count_first, first_of, front_of, greatest_measure, least_measure, longest_run,
+    open_ones, ordered_days, rest_of, violations,
 };
 use crate::names::{PolicyTree, RuleLabel, label_of, trees_in};
 use crate::reported::ReportedOperator;
@@ -24,7 +24,7 @@ const COLUMNS: &str =
     "operator_id,operator_name,policy_id,policy_name,rule_number,rule_id,rule_name,day,samples,violated,";
 /// The names of the other columns.
 const RUN_COLUMNS: &str =
-    "longest,longest_first,longest_last,first_violated,last_violated,greatest_measure\r\n";
+    "longest,longest_first,longest_last,first_violated,last_violated,greatest_measure,least_measure\r\n";
 
 /// What the samples of a rule's day come to.
 #[derive(Clone, Copy)]
@@ -45,6 +45,8 @@ pub(crate) struct Tally {
     pub(crate) last_violated: Option<Moment>,
     /// The greatest measure.
     pub(crate) greatest_measure: u64,
+    /// The least measure of those in which the rule was open, where there are any.
+    pub(crate) least_measure: Option<u64>,
 }
 
 /// The moment of the first of some samples, where there is one.
@@ -72,6 +74,7 @@ fn tally_of(alloc: Global, samples: &[DaySample]) -> Result<Tally, AllocError>
     ensures { IfOk result (λ tally. tally ≡ tally_of samples.now) }
 {
     let violated = violations(alloc, samples)?;
+    let open = open_ones(alloc, samples)?;
     let longest = longest_run(samples);
     Ok(Tally {
         samples: samples.len() as u64,
@@ -82,6 +85,7 @@ fn tally_of(alloc: Global, samples: &[DaySample]) -> Result<Tally, AllocError>
         first_violated: first_moment(&violated),
         last_violated: last_moment(&violated),
         greatest_measure: greatest_measure(samples),
+        least_measure: least_measure(&open),
     })
 }
 
@@ -114,6 +118,7 @@ fn push_tally<'x>(
         CellValue::Local(tally.first_violated),
         CellValue::Local(tally.last_violated),
         CellValue::Number(tally.greatest_measure),
+        CellValue::NumberIf(tally.least_measure),
     ];
     push_row(out, zone, &CellValue::Id(operator.id), &others)
 }

@@ -4,7 +4,7 @@ ghost use Rattle.mds_catalog.specs.Catalogue.{publications_of};
 ghost use Rattle.mds_verdict.specs.Verdict.{status_name};
 ghost use Rattle.cli_report.specs.Cells.{IsRow};
 ghost use Rattle.cli_report.specs.Names.{label_view, policies_in, tree_policy};
-ghost use Rattle.cli_report.specs.Rows.{IsVerdicts, maximum, minimum, operator_view};
+ghost use Rattle.cli_report.specs.Rows.{IsVerdicts, kind_units, maximum, minimum, operator_view, units};
 ghost use Rattle.cli_report.specs.Rows.{verdict_cells, verdict_header, verdict_row};
 ghost use Rattle.cli_report.specs.Texts.{Appends};
 
@@ -14,13 +14,14 @@ use crate::reported::ReportedOperator;
 use crate::rows::push_row;
 use journal_samples::RuleSample;
 use mds_match::Zone;
+use mds_policy::Kind;
 use mds_verdict::Status;
 use std::alloc::{AllocError, Global};
 
 /// The names of the columns.
 const COLUMNS: &str =
     "moment,local,operator_id,operator_name,policy_id,policy_name,rule_number,rule_id,rule_name,\
-    status,measure,minimum,maximum\r\n";
+    status,measure,minimum,maximum,units\r\n";
 
 /// The name of a status, as a compliance report has it.
 fn status_name<'x>(status: Status) -> &'x str
@@ -54,6 +55,26 @@ fn maximum(label: &RuleLabel<'_>) -> Option<u32>
     }
 }
 
+/// The unit of a rule of this kind, by what its document says of it: none of a count rule.
+fn kind_units(kind: Kind, words: &[u8]) -> &[u8]
+    ensures { result.now ≡ kind_units kind words.now }
+{
+    match kind {
+        Kind::Count => b"",
+        Kind::Time(_) | Kind::Other => words,
+    }
+}
+
+/// The unit of a rule's bounds, in the words of its document; empty for a count rule.
+fn units<'x>(label: &RuleLabel<'x>) -> &'x [u8]
+    ensures { result.now ≡ units (label_view label.now) }
+{
+    match label.rule {
+        Some(rule) => kind_units(rule.kind, label.units),
+        None => b"",
+    }
+}
+
 /// Appends the row of a sample.
 fn push_verdict<'x>(
     out: &mut Vec<u8>,
@@ -79,6 +100,7 @@ fn push_verdict<'x>(
         CellValue::Number(sample.measure),
         CellValue::Bound(minimum(label)),
         CellValue::Bound(maximum(label)),
+        CellValue::Text(units(label)),
     ];
     push_row(out, zone, &CellValue::Utc(sample.at), &others)
 }

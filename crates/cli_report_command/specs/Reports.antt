@@ -3,7 +3,8 @@ use Rattle.std.specs.Prelude.{ℕ, ◌==◌, Bool, ◌||◌, List, [], ◌∷◌
 use Rattle.std.specs.List.{enumerate_from, filter, list_any}
 use Rattle.mds_request.specs.Configuration.{Operator}
 use Rattle.journal_entry.specs.Entries.{Entry}
-use Rattle.journal_samples.specs.Journals.{covered, latest}
+use Rattle.journal_folder.specs.Latest.{latest}
+use Rattle.journal_samples.specs.Journals.{covered}
 use Rattle.journal_samples.specs.Samples.{samples_by}
 use Rattle.journal_samples.specs.Standing.{Standing}
 use Rattle.journal_samples.specs.declared.sample.RuleSample.{RuleSample}

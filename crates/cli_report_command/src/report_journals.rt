@@ -1,9 +1,9 @@
 //! The journals of a report: they are read once, and their entries lie in the bytes that were read.
 
 use crate::report_samples::ReportJournal;
-use cli_journal::{ExitCause, check_startable};
+use cli_journal::ExitCause;
 use journal_entry::JournalEntry;
-use journal_folder::{journal_bytes, lent_entries_in, lent_survey_of, suits};
+use journal_folder::{journal_bytes, lent_entries_in, startable_texts, suits};
 use mds_request::Config;
 use std::alloc::{AllocError, AllocGlobal, Global};
 use std::fs::{File, Files};
@@ -43,9 +43,8 @@ fn entries_of<'a>(
     config: &Config,
     bytes: &'a [u8],
 ) -> Result<Vec<JournalEntry<'a>>, ExitCause> {
-    let survey = lent_survey_of(alloc, bytes)?;
-    check_startable(survey.whole, survey.ending)?;
-    let Some((head, rest)) = survey.texts.split_first() else {
+    let texts = startable_texts(alloc, bytes)?;
+    let Some((head, rest)) = texts.split_first() else {
         return Ok(Vec::new(alloc));
     };
     suits(alloc, config, head, &[])?;

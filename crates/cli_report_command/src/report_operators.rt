@@ -7,7 +7,7 @@ use crate::report_files::{ReportBytes, ReportFiles};
 use crate::report_rows::{operator_report, report_end, report_head};
 use crate::report_samples::{JournalFault, OperatorSamples, ReportJournal, sample_operator};
 use cli_journal::ExitCause;
-use cli_report::{ReportSpan, ReportedOperator};
+use cli_report::{ReportHead, ReportedOperator};
 use journal_recovery::{Cause, Fault};
 use journal_samples::SampleFault;
 use mds_request::Config;
@@ -30,8 +30,8 @@ pub struct ReportSource<'a> {
     pub journals: &'a [ReportJournal<'a>],
     /// The moments, which ascend.
     pub moments: &'a [Moment],
-    /// The same by the first, by what all are before, and by how far they are apart.
-    pub span: ReportSpan,
+    /// What the page says of the report, with the first and the last moment.
+    pub head: ReportHead<'a>,
 }
 
 impl ReportSource<'_> {
@@ -102,7 +102,7 @@ fn part_of(
         samples: &samples,
         catalogue: replay.catalogue(),
     };
-    let bytes = operator_report(alloc, config.zone(), source.span, &operator)?;
+    let bytes = operator_report(alloc, config.zone(), source.head.span, &operator)?;
     Ok(OperatorPart {
         bytes,
         samples: samples.len(),
@@ -188,7 +188,7 @@ pub fn append_operators<R: Eprint + Threads + Sync + AllocGlobal>(
 ) -> Result<usize, ExitCause>
     requires { All (λ place. place < length (configuration source.now.config.now).operators) source.now.places.now }
 {
-    files.append(&report_head(rt.alloc(), source.config.zone(), source.span)?)?;
+    files.append(&report_head(rt.alloc(), source.config.zone(), &source.head)?)?;
     let most = most_at_once(rt);
     let mut written = Written {
         operators: 0,

@@ -7,7 +7,8 @@ ghost use Rattle.journal_samples.specs.Standing.{new_standing};
 ghost use Rattle.cli_report_command.specs.Reports.{count_told, samples_told};
 
 use journal_entry::JournalEntry;
-use journal_samples::{OperatorReplay, RuleSample, SampleFault, count_covered, latest_moment};
+use journal_folder::latest_moment;
+use journal_samples::{OperatorReplay, RuleSample, SampleFault, count_covered};
 use mds_request::Config;
 use mds_text::Moment;
 use std::alloc::{AllocError, Global};

@@ -1,49 +1,101 @@
 //! Reports how operators stood at moments of the past, from journals of a city.
 
-ghost use Rattle.std.specs.Prelude.{◌≡◌, ◌<◌, ◌^◌, All, bytes_eq, IfOk, length, map};
+ghost use Rattle.std.specs.Prelude.{◌≡◌, ◌<◌, ◌^◌, All, bytes_eq, IfOk, length, map, string_bytes};
 ghost use Rattle.mds_request.specs.Configuration.{configuration, operator};
+ghost use Rattle.cli_calendar.specs.Moments.{moments_between};
+ghost use Rattle.cli_report_command.specs.Heads.{last_of, noun};
 ghost use Rattle.cli_report_command.specs.Reports.{is_reported, reported_places};
 
+use crate::report_city::{ReportCity, city_of};
 use crate::report_files::{ReportFiles, check_folder, clear_parts};
 use crate::report_journals::{journals_in, read_journals};
 use crate::report_operators::{ReportSource, append_operators};
-use cli_args::ReportOptions;
+use cli_args::{COMMIT, ReportOptions, VERSION, version_line};
 use cli_calendar::{moment_in, moments_between};
 use cli_journal::{
-    ExitCause, ReportFault, configuration_in, configuration_text, operator_names_in, span_of,
+    ConfigFile, ExitCause, ReportFault, configuration_in, operator_names_in, span_of,
 };
-use cli_report::ReportSpan;
+use cli_report::{ReportHead, ReportSpan};
 use mds_request::{Config, Operator};
-use mds_text::Id;
+use mds_text::{Id, Moment};
+use server_admission::{MachineClock, Moments};
 use std::alloc::{AllocError, AllocGlobal, Global};
 use std::fs::{File, Files};
 use std::io::{Eprint, Print};
 use std::thread::Threads;
+use std::time::Clock;
 
 /// The milliseconds of a minute.
 const MINUTE: u64 = 60_000;
+
+/// The time that a report is about.
+#[derive(Clone, Copy)]
+struct ReportTime {
+    /// The first moment.
+    from: Moment,
+    /// What all moments are before.
+    to: Moment,
+    /// The milliseconds between two moments.
+    every: u64,
+}
 
 /// The time that a report is about.
 ///
 /// # Errors
 ///
 /// `Report` with `NoFirst`, `NoLast` or `NoTime`; `NoMemory`.
-fn read_span(
+fn read_time(
     alloc: Global,
     config: &Config,
     asked: &ReportOptions<'_>,
-) -> Result<ReportSpan, ExitCause>
-    ensures apart { IfOk result (λ span. 0 < span.every) }
-    ensures short { IfOk result (λ span. span.every < 2 ^ 62) }
+) -> Result<ReportTime, ExitCause>
+    ensures apart { IfOk result (λ time. 0 < time.every) }
+    ensures short { IfOk result (λ time. time.every < 2 ^ 62) }
 {
     let from = moment_in(alloc, config.zone(), asked.from)?;
     let to = moment_in(alloc, config.zone(), asked.to)?;
     let (from, to) = span_of(from, to)?;
-    Ok(ReportSpan {
+    Ok(ReportTime {
         from,
         to,
         every: asked.every * MINUTE,
     })
+}
+
+/// The last of some moments; another one where there is none.
+fn last_of(moments: &[Moment], other: Moment) -> Moment
+    ensures { result ≡ last_of moments.now other }
+{
+    match moments.last() {
+        Some(last) => *last,
+        None => other,
+    }
+}
+
+/// The moments of a report.
+///
+/// # Errors
+///
+/// Out of memory.
+fn moments_of(alloc: Global, time: &ReportTime) -> Result<Vec<Moment>, AllocError>
+    requires apart { 0 < time.now.every }
+    requires short { time.now.every < 2 ^ 62 }
+    ensures { IfOk result (λ moments. moments.items ≡ moments_between time.now.from time.now.to time.now.every) }
+{
+    moments_between(alloc, time.from, time.to, time.every)
+}
+
+/// The span of a report with these moments.
+fn span_over(time: &ReportTime, moments: &[Moment]) -> ReportSpan
+    ensures first { result.first ≡ time.now.from }
+    ensures last { result.last ≡ last_of moments.now time.now.from }
+    ensures every { result.every ≡ time.now.every }
+{
+    ReportSpan {
+        first: time.from,
+        last: last_of(moments, time.from),
+        every: time.every,
+    }
 }
 
 /// Whether two identifiers are the same.
@@ -121,7 +173,14 @@ fn write_report<R: Files<File = File> + Eprint + Threads + Sync + AllocGlobal>(
     written
 }
 
-/// Prints how much a report tells.
+/// The noun for so many.
+fn noun<'x>(count: usize, one: &'x str, many: &'x str) -> &'x str
+    ensures { result.now ≡ noun count one.now many.now }
+{
+    if count == 1 { one } else { many }
+}
+
+/// Prints how much a report tells: of how many operators, at how many moments, in how many rows of its first table.
 ///
 /// # Errors
 ///
@@ -130,11 +189,61 @@ fn print_counts<R: Print>(
     rt: &R,
     operators: usize,
     moments: usize,
-    samples: usize,
+    rows: usize,
 ) -> Result<(), ExitCause> {
-    match println!(rt; "{operators} operators, {moments} moments, {samples} samples") {
+    let of = noun(operators, "operator", "operators");
+    let at = noun(moments, "moment", "moments");
+    let told = noun(rows, "row", "rows");
+    match println!(rt; "{operators} {of}, {moments} {at}, {rows} {told} in verdicts.csv") {
         Ok(()) => Ok(()),
         Err(_) => Err(ExitCause::NotPrinted),
+    }
+}
+
+/// The text of a configuration's file, with a rule in the place of the zone's name, and what a report says of its city.
+///
+/// # Errors
+///
+/// `Misconfigured` where the file can't be read or is too long, `NoMemory`.
+fn read_city<R: Files<File = File> + AllocGlobal>(
+    rt: &R,
+    path: &str,
+) -> Result<(Vec<u8>, ReportCity), ExitCause> {
+    let alloc = rt.alloc();
+    let file = ConfigFile::read(rt, path)?;
+    let text = file.resolve(alloc)?;
+    let city = city_of(alloc, file.zone_name(), &text)?;
+    Ok((text, city))
+}
+
+/// The moment at which a report is made; `None` where no clock says so.
+fn made_at<R: Clock + Copy>(rt: &R) -> Option<Moment> {
+    MachineClock(*rt).now()
+}
+
+/// The texts at the head of a report's page.
+#[derive(Drop)]
+struct HeadTexts {
+    /// What is said of the city.
+    city: ReportCity,
+    /// The program, with its version.
+    program: String,
+}
+
+/// What the page says of a report that was made at this moment.
+fn head_of(texts: &HeadTexts, made: Option<Moment>, span: ReportSpan) -> ReportHead<'_>
+    ensures city { result.city.now ≡ string_bytes texts.now.city.title }
+    ensures zone { result.zone.now ≡ string_bytes texts.now.city.zone }
+    ensures program { result.program.now ≡ string_bytes texts.now.program }
+    ensures made { result.made ≡ made }
+    ensures span { result.span ≡ span }
+{
+    ReportHead {
+        city: texts.city.title.as_bytes(),
+        zone: texts.city.zone.as_bytes(),
+        made,
+        program: texts.program.as_bytes(),
+        span,
     }
 }
 
@@ -143,17 +252,17 @@ fn print_counts<R: Print>(
 ///
 /// # Errors
 ///
-/// `Misconfigured`; `Report`; `ReportFolder` with the first folder whose journal can't be read, or else is damaged or of
-/// another configuration; `ReportEntry` with the first entry that can't be replayed; `NoMemory`. Then nothing is
+/// `Misconfigured`; `Report`; `ReportFolder` with the first folder whose journal can't be read, or else is damaged or
+/// of another configuration; `ReportEntry` with the first entry that can't be replayed; `NoMemory`. Then nothing is
 /// written. `NotPrinted` where the report is.
 pub fn report<R>(rt: &R, asked: &ReportOptions<'_>) -> Result<(), ExitCause>
 where
-    R: AllocGlobal + Files<File = File> + Print + Eprint + Threads + Sync,
+    R: AllocGlobal + Files<File = File> + Print + Eprint + Threads + Clock + Sync + Copy,
 {
     let alloc = rt.alloc();
-    let text = configuration_text(rt, alloc, asked.config)?;
+    let (text, city) = read_city(rt, asked.config)?;
     let config = configuration_in(alloc, &text)?;
-    let span = read_span(alloc, &config, asked)?;
+    let time = read_time(alloc, &config, asked)?;
     let ids = asked.operators(alloc)?;
     check_ids(config.operators(), &ids)?;
     check_folder(rt, asked.out)?;
@@ -161,15 +270,19 @@ where
     let journals = journals_in(alloc, &config, &bytes)?;
     let names = operator_names_in(alloc, &text)?;
     let places = reported_places(alloc, config.operators(), &ids)?;
-    let moments = moments_between(alloc, span.from, span.to, span.every)?;
+    let moments = moments_of(alloc, &time)?;
+    let program = version_line(alloc, VERSION, COMMIT)?;
+    let span = span_over(&time, &moments);
+    let texts = HeadTexts { city, program };
+    let head = head_of(&texts, made_at(rt), span);
     let source = ReportSource {
         config: &config,
         names: &names,
         places: &places,
         journals: &journals,
         moments: &moments,
-        span,
+        head,
     };
-    let samples = write_report(rt, asked.out, &source)?;
-    print_counts(rt, places.len(), moments.len(), samples)
+    let rows = write_report(rt, asked.out, &source)?;
+    print_counts(rt, places.len(), moments.len(), rows)
 }

@@ -18,7 +18,7 @@ pub enum CompactFault {
     Folder(FolderFault),
     /// No server starts from the journal.
     OldRefused(StartFault),
-    /// The compacted journal can't be written, synced or read back.
+    /// The compacted journal can't be written, synced or read back, or the compaction can't be recorded.
     NotWritten,
     /// No server starts from the compacted journal.
     NewRefused(StartFault),

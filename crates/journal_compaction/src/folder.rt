@@ -6,8 +6,8 @@ use crate::journal_location::{JournalLocation, compact_at};
 use crate::prefix::check_empty;
 use journal_file::{FileStorage, Journal, Log};
 use journal_folder::{
-    CutFiles, Folder, FolderFault, Folders, archive_in, create_locked, journal_bytes, open_folder,
-    sync_names,
+    CompactedJournal, CutFiles, Folder, FolderFault, Folders, archive_compacted, create_locked,
+    journal_bytes, open_folder, record_compaction, sync_names,
 };
 use mds_text::Moment;
 use std::alloc::Global;
@@ -22,6 +22,8 @@ struct LockedFolder<'a, 'b, R: Files<File = File>> {
     folder: &'b str,
     /// The folder in which the journal is archived; `None` for nowhere.
     archive: Option<&'b str>,
+    /// The journal, once it is archived, where that is to be; `None` before, and where it has no entries.
+    compacted: Option<CompactedJournal>,
     /// Locked as long as they are open: the folder's lock, and its journal.
     locks: (File, File),
     /// Another handle of the compacted journal, which is locked as long as it is open: a program that opens the journal
@@ -34,6 +36,28 @@ fn clone_handle(file: &File) -> Result<File, FolderFault> {
     match file.try_clone() {
         Ok(file) => Ok(file),
         Err(_) => Err(FolderFault::Unusable),
+    }
+}
+
+/// Records that a journal is compacted, in the file `compactions` of a city's folder, and waits until that is synced. A
+/// journal without entries, `None`, isn't recorded.
+///
+/// # Errors
+///
+/// `NotWritten` where that can't be done, `NoMemory`.
+pub fn record_compacted<R: Folders>(
+    rt: &R,
+    alloc: Global,
+    folder: &str,
+    journal: &Option<CompactedJournal>,
+) -> Result<(), CompactFault> {
+    let Some(journal) = journal else {
+        return Ok(());
+    };
+    match record_compaction(rt, alloc, folder, journal) {
+        Ok(()) => Ok(()),
+        Err(FolderFault::NoMemory) => Err(CompactFault::NoMemory),
+        Err(_) => Err(CompactFault::NotWritten),
     }
 }
 
@@ -56,6 +80,8 @@ impl<R: Folders + Files<File = File>> JournalLocation<Journal<FileStorage<File>>
 
     ghost is_archived = { λ _. ⊤ };
 
+    ghost is_recorded = { λ _. ⊤ };
+
     fn create_log(&mut self) -> Result<Journal<FileStorage<File>>, FolderFault> {
         let path = format!(in self.alloc; "{}/journal.thinned", self.folder)?;
         let file = create_locked(self.rt, path.as_str())?;
@@ -67,12 +93,13 @@ impl<R: Folders + Files<File = File>> JournalLocation<Journal<FileStorage<File>>
     }
 
     fn archive(&mut self) -> Result<(), CompactFault> {
-        let Some(archive) = self.archive else {
-            return Ok(());
-        };
         let bytes = journal_bytes(self.rt, self.alloc, self.folder)?;
-        archive_in(self.rt, self.alloc, archive, &bytes)?;
+        self.compacted = archive_compacted(self.rt, self.alloc, self.archive, &bytes)?;
         Ok(())
+    }
+
+    fn record(&mut self) -> Result<(), CompactFault> {
+        record_compacted(self.rt, self.alloc, self.folder, &self.compacted)
     }
 
     fn replace(&mut self) -> Result<(), FolderFault> {
@@ -102,13 +129,13 @@ fn texts_in<R: Files<File = File>>(
 /// Compacts the journal of a city's folder, which no server may have meanwhile. It takes the folder's lock and reads
 /// the journal (a tail that isn't whole is saved next to it, and cut). It writes the compacted one to `journal.thinned`
 /// next to it, syncs that, starts a server from each and compares their answers at this moment. It archives the journal
-/// in another folder, where one is given, renames the compacted one over it and syncs the folder. The configuration is
-/// its text, as `Config::read` reads it.
+/// in another folder, where one is given, records the compaction in the file `compactions`, renames the compacted journal
+/// over it and syncs the folder. The configuration is its text, as `Config::read` reads it.
 ///
 /// # Errors
 ///
-/// Those of `compact`, `NotArchived`, and `Folder` where the folder can't be used or another program has it. The journal
-/// stays as it was, except where renaming it or syncing the folder failed: then it isn't known whether it did.
+/// Those of `compact_at`, where `Folder` is also where another program has the folder. The journal stays as it was,
+/// except where renaming it or syncing the folder failed: then it isn't known whether it did.
 pub fn compact_folder<R: Wait + Folders + Files<File = File>>(
     rt: &R,
     alloc: Global,
@@ -134,6 +161,7 @@ pub fn compact_folder<R: Wait + Folders + Files<File = File>>(
         alloc,
         folder,
         archive,
+        compacted: None,
         locks: (lock, held),
         thinned: None,
     };

@@ -24,6 +24,9 @@ pub trait JournalLocation<L: Log> {
     /// The journal in the place is archived, where it is to be.
     ghost is_archived: { Self → Type 0 };
 
+    /// That it is compacted is recorded, and where it is archived.
+    ghost is_recorded: { Self → Type 0 };
+
     /// Creates an empty log next to the journal.
     fn create_log(&mut self) -> Result<L, FolderFault>
         ensures empty { IfOk result (λ log. L.may_be log []) }
@@ -38,9 +41,20 @@ pub trait JournalLocation<L: Log> {
         ensures archived { OnOk result (is_archived self.new) }
         ensures kept { is_replaced self.new → is_replaced self.old };
 
+    /// Records next to the journal in the place that it is compacted, and under which name it is archived, and waits
+    /// until that is synced.
+    ///
+    /// # Errors
+    ///
+    /// `NotWritten`, or `NoMemory`.
+    fn record(&mut self) -> Result<(), CompactFault>
+        requires { is_archived self.old }
+        ensures recorded { OnOk result (is_recorded self.new) }
+        ensures kept { is_replaced self.new → is_replaced self.old };
+
     /// Puts the log next to the journal into its place at once, and waits until that is synced.
     fn replace(&mut self) -> Result<(), FolderFault>
-        requires { is_archived self.old };
+        requires { is_recorded self.old };
 }
 
 /// Compacts a journal in place, where both openings are named.
@@ -62,6 +76,7 @@ fn compact_both<P: JournalLocation<L>, K: OpeningName, O: OpeningName, L: Log, R
     let counts = compact::<K, O, L, R>(rt, alloc, old, &mut log, (one, other))?;
     drop(log);
     place.archive()?;
+    place.record()?;
     place.replace()?;
     Ok(counts)
 }
@@ -84,12 +99,13 @@ fn compact_named<P: JournalLocation<L>, K: OpeningName, L: Log, R: Wait>(
 }
 
 /// Compacts a journal in place: the compacted one is written next to it, synced and compared, and then put into its
-/// place, once the old one is archived, where it is to be.
+/// place, once the old one is archived, where it is to be, and its compaction recorded.
 ///
 /// # Errors
 ///
-/// Those of `compact`, `NotArchived`, and `Folder` where the place can't be used. The old journal stays in its place,
-/// unless the last step failed: then it is only known that one of the two journals is there.
+/// Those of `compact`, of which `NotWritten` is also where the compaction can't be recorded; `NotArchived`, and `Folder`
+/// where the place can't be used. The old journal stays in its place, unless the last step failed: then it is only known
+/// that one of the two journals is there.
 pub fn compact_at<P: JournalLocation<L>, L: Log, R: Wait>(
     rt: &R,
     alloc: Global,

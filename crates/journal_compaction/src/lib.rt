@@ -19,6 +19,6 @@ mod writing;
 pub use compacting::compact_entries;
 pub use compaction::{Counts, SourceJournal, compact};
 pub use fault::CompactFault;
-pub use folder::compact_folder;
+pub use folder::{compact_folder, record_compacted};
 pub use journal_location::{JournalLocation, compact_at};
 pub use prefix::{AnswersAgree, JournalPrefix, check_empty, compact_prefix};

@@ -1,1 +1,3 @@
 pub mod Spans
+mod Behind
+pub mod Lines

@@ -1,5 +1,5 @@
 -- The names of archived journals, and when one is kept.
-use Rattle.std.specs.Prelude.{◌≡◌, ℕ, ◌==◌, List, [], ◌∷◌, ◌++◌, length, drop, map, codes, bytes_eq, if◌then◌else◌, Option, Some, None, IfSome}
+use Rattle.std.specs.Prelude.{◌≡◌, ℕ, ◌==◌, List, [], ◌∷◌, ◌++◌, length, drop, map, codes, bytes_eq, if◌then◌else◌, Option, Some, None}
 use Rattle.std.specs.Fmt.{decimal}
 use Rattle.journal_entry.specs.Entries.{Entry, entry_text}
 use Rattle.journal_file.specs.Groups.{listed}
@@ -39,10 +39,15 @@ abbrev pub slot_of : Option (List ℕ) → List ℕ → ArchiveSlot
 slot_of None bytes = Free
 slot_of (Some found) bytes = if bytes_eq found bytes then Same else Taken
 
--- under one of a span's names stand these bytes, where `has` says which names have which
-abbrev pub HasSpan : (List ℕ → List ℕ → Type 0) → List ℕ → JournalSpan → Type 0
-HasSpan has bytes span = (number : ℕ) × has (archive_name span number) bytes
+-- this is one of a span's names, and under it stand these bytes, where `has` says which names have which
+abbrev pub HasName : (List ℕ → List ℕ → Type 0) → List ℕ → JournalSpan → List ℕ → Type 0
+HasName has bytes span name = (number : ℕ) × (name ≡ archive_name span number) × has name bytes
 
--- a journal's bytes are archived under a name of their span, or they have no entries
-abbrev pub IsArchived : (List ℕ → List ℕ → Type 0) → List ℕ → Type 0
-IsArchived has bytes = (span : Option JournalSpan) × IsSpan bytes span × IfSome span (HasSpan has bytes)
+-- under this name, one of their span, a journal's bytes are archived; under none, where they have no entries
+abbrev pub IsNamed : (List ℕ → List ℕ → Type 0) → List ℕ → Option JournalSpan → Option (List ℕ) → Type 0
+IsNamed has bytes None name = name ≡ None
+IsNamed has bytes (Some span) None = ⊥
+IsNamed has bytes (Some span) (Some name) = HasName has bytes span name
+
+abbrev pub IsArchivedAs : (List ℕ → List ℕ → Type 0) → List ℕ → Option (List ℕ) → Type 0
+IsArchivedAs has bytes name = (span : Option JournalSpan) × IsSpan bytes span × IsNamed has bytes span name

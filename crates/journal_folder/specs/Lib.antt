@@ -4,3 +4,6 @@ pub mod Script
 pub mod Files
 pub mod Damages
 pub mod Archives
+pub mod Startable
+pub mod Latest
+pub mod Compactions

@@ -2,7 +2,8 @@
 ghost use Rattle.std.specs.Prelude.{◌≡◌, ◌++◌, ℕ, List, map, string_bytes, option_map, IfOk, OnOk};
 ghost use Rattle.std.specs.Fmt.{decimal};
 ghost use Rattle.journal_entry.specs.Entries.{entry_of};
-ghost use Rattle.journal_folder.specs.Archives.{span_of, IsSpanOf, IsSpan, span_name, archive_name, slot_of, HasSpan, IsArchived};
+ghost use Rattle.journal_folder.specs.Archives.{span_of, IsSpanOf, IsSpan, span_name, archive_name, slot_of, HasName};
+ghost use Rattle.journal_folder.specs.Archives.{IsArchivedAs};
 
 use crate::fault::FolderFault;
 use crate::journal::entries_in;
@@ -150,14 +151,14 @@ pub fn journal_span(alloc: Global, bytes: &[u8]) -> Result<Option<JournalSpan>, 
 }
 
 /// The milliseconds since the Unix epoch of a moment.
-fn millis_of(at: Moment) -> u64
+pub(crate) fn millis_of(at: Moment) -> u64
     ensures { result ≡ at }
 {
     at.get().unsigned_abs()
 }
 
 /// Appends a number's digits.
-fn push_number(alloc: Global, name: &mut String, number: u64) -> Result<(), AllocError>
+pub(crate) fn push_number(alloc: Global, name: &mut String, number: u64) -> Result<(), AllocError>
     ensures { OnOk result (string_bytes name.new ≡ string_bytes name.old ++ decimal number) }
 {
     let digits = format!(in alloc; "{number}")?;
@@ -192,7 +193,7 @@ pub fn archive_name(alloc: Global, span: &JournalSpan, number: u32) -> Result<St
 }
 
 /// What stands at a name, by the bytes that were found there.
-pub(crate) fn slot_of(found: Option<&[u8]>, bytes: &[u8]) -> ArchiveSlot
+pub fn slot_of(found: Option<&[u8]>, bytes: &[u8]) -> ArchiveSlot
     ensures { result ≡ slot_of (option_map (λ found. found.now) found.entry) bytes.now }
 {
     match found {
@@ -202,7 +203,7 @@ pub(crate) fn slot_of(found: Option<&[u8]>, bytes: &[u8]) -> ArchiveSlot
     }
 }
 
-/// Archives bytes under the first name of a span that no other bytes have.
+/// Archives bytes under the first name of a span that no other bytes have, and returns that name.
 ///
 /// # Errors
 ///
@@ -212,23 +213,27 @@ fn archive_by_span<A: Archive>(
     archive: &mut A,
     span: &JournalSpan,
     bytes: &[u8],
-) -> Result<(), ArchiveFault>
-    ensures archived { OnOk result (HasSpan (A.has archive.new) bytes.now span.now) }
+) -> Result<String, ArchiveFault>
+    ensures archived { IfOk result (λ name. HasName (A.has archive.new) bytes.now span.now (string_bytes name)) }
     ensures others { (name text : List ℕ) → A.has archive.old name text → A.has archive.new name text }
 {
     for number in 0..MOST_FILES {
         let name = archive_name(alloc, span, number)?;
         match archive.slot_at(name.as_str(), bytes)? {
-            ArchiveSlot::Free => return archive.keep(name.as_str(), bytes),
-            ArchiveSlot::Same => return Ok(()),
+            ArchiveSlot::Free => {
+                archive.keep(name.as_str(), bytes)?;
+                return Ok(name);
+            }
+            ArchiveSlot::Same => return Ok(name),
             ArchiveSlot::Taken => {}
         }
     }
     Err(ArchiveFault::NoName)
 }
 
-/// Archives a journal's bytes under the first name of its span that no other bytes have. A journal without entries
-/// isn't archived. What the archive has stays there, whatever comes.
+/// Archives a journal's bytes under the first name of its span that no other bytes have, and returns that name, also
+/// where they stood there already. A journal without entries isn't archived: then there is no name. What the archive
+/// has stays there, whatever comes.
 ///
 /// # Errors
 ///
@@ -237,12 +242,12 @@ pub fn archive_journal<A: Archive>(
     alloc: Global,
     archive: &mut A,
     bytes: &[u8],
-) -> Result<(), ArchiveFault>
-    ensures archived { OnOk result (IsArchived (A.has archive.new) bytes.now) }
+) -> Result<Option<String>, ArchiveFault>
+    ensures archived { IfOk result (λ name. IsArchivedAs (A.has archive.new) bytes.now (option_map string_bytes name)) }
     ensures others { (name text : List ℕ) → A.has archive.old name text → A.has archive.new name text }
 {
     match journal_span(alloc, bytes)? {
-        Some(span) => archive_by_span(alloc, archive, &span, bytes),
-        None => Ok(()),
+        Some(span) => Ok(Some(archive_by_span(alloc, archive, &span, bytes)?)),
+        None => Ok(None),
     }
 }

@@ -148,8 +148,8 @@ pub fn check_archive<R: Files<File = File>>(rt: &R, folder: &str) -> Result<(), 
     }
 }
 
-/// Archives a journal's bytes in a folder, as `archive_journal` does: in a file `archive.part`, which is renamed once it
-/// is whole and synced. Then the folder's names are synced.
+/// Archives a journal's bytes in a folder, as `archive_journal` does, and returns the file's name: in a file
+/// `archive.part`, which is renamed once it is whole and synced. Then the folder's names are synced.
 ///
 /// # Errors
 ///
@@ -159,7 +159,7 @@ pub fn archive_in<R: Folders>(
     alloc: Global,
     folder: &str,
     bytes: &[u8],
-) -> Result<(), ArchiveFault> {
+) -> Result<Option<String>, ArchiveFault> {
     let mut archive = ArchiveFiles::open(rt, alloc, folder)?;
     archive_journal(alloc, &mut archive, bytes)
 }

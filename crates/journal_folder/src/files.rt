@@ -15,14 +15,16 @@ const ATTEMPTS: u32 = 16;
 
 /// What identifies a file in the system: its device, and its inode number there.
 #[derive(Clone, Copy, Debug, PartialEq, Eq)]
-pub(crate) struct Identity {
-    pub(crate) device: u64,
-    pub(crate) number: u64,
+pub struct Identity {
+    /// The device.
+    pub device: u64,
+    /// The inode number there.
+    pub number: u64,
 }
 
 /// What stands at a name.
 #[derive(Clone, Copy, Debug, PartialEq, Eq)]
-pub(crate) enum PathEntry {
+pub enum PathEntry {
     /// Nothing.
     Nothing,
     /// A file.
@@ -33,7 +35,7 @@ pub(crate) enum PathEntry {
 
 /// Whose the name is by which a file was opened.
 #[derive(Clone, Copy, Debug, PartialEq, Eq)]
-pub(crate) enum NameOwner {
+pub enum NameOwner {
     /// It is that file's.
     Opened,
     /// It is another file's by now, or nothing's.
@@ -43,7 +45,7 @@ pub(crate) enum NameOwner {
 }
 
 /// Whose the name is by which a file was opened, by what stands at it now.
-pub(crate) fn owner_of(opened: Identity, entry: PathEntry) -> NameOwner
+pub fn owner_of(opened: Identity, entry: PathEntry) -> NameOwner
     ensures { result ≡ owner_of opened entry }
 {
     match entry {

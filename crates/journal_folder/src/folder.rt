@@ -69,7 +69,7 @@ fn ensure_folder<R: Files<File = File>>(
 }
 
 /// The path of a file in a folder.
-fn path_of(alloc: Global, folder: &str, name: &str) -> Result<String, FolderFault> {
+pub(crate) fn path_of(alloc: Global, folder: &str, name: &str) -> Result<String, FolderFault> {
     Ok(format!(in alloc; "{folder}/{name}")?)
 }
 
@@ -118,6 +118,21 @@ fn open_journal<R: Files<File = File>>(
     }
 }
 
+/// All bytes of a file that is open.
+///
+/// # Errors
+///
+/// `Unusable` where it can't be read, `NoMemory`.
+pub(crate) fn bytes_of(alloc: Global, file: File) -> Result<Vec<u8>, FolderFault> {
+    let mut file = file;
+    let mut bytes = Vec::new(alloc);
+    match file.read_to_end(&mut bytes) {
+        Ok(_) => Ok(bytes),
+        Err(fault) if fault.kind() == ErrorKind::OutOfMemory => Err(FolderFault::NoMemory),
+        Err(_) => Err(FolderFault::Unusable),
+    }
+}
+
 /// Reads the bytes of the journal at a path, only to look at it: nothing is locked or changed, so a program may be
 /// writing it. The journal is the folder's, or the file itself where the path names no folder: an archived journal is
 /// such a file.
@@ -130,11 +145,5 @@ pub fn journal_bytes<R: Files<File = File>>(
     alloc: Global,
     path: &str,
 ) -> Result<Vec<u8>, FolderFault> {
-    let mut file = open_journal(rt, alloc, path)?;
-    let mut bytes = Vec::new(alloc);
-    match file.read_to_end(&mut bytes) {
-        Ok(_) => Ok(bytes),
-        Err(fault) if fault.kind() == ErrorKind::OutOfMemory => Err(FolderFault::NoMemory),
-        Err(_) => Err(FolderFault::Unusable),
-    }
+    bytes_of(alloc, open_journal(rt, alloc, path)?)
 }

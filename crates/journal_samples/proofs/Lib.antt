@@ -3,5 +3,6 @@ mod Answers
 mod Ascending
 mod Held
 mod Placing
+pub mod Replies
 mod Sampled
-mod Servers
+pub mod Servers

@@ -1,21 +1,7 @@
 -- Several journals, as archives of a city and its state folder: which of them tells what stood at a moment. Each begins at
 -- the city's beginning, and a later one goes further but may have left out what an earlier one has. So it is the first one
 -- with an entry later than the moment, or else the last one.
-use Rattle.std.specs.Prelude.{ℕ, ◌+◌, Bool, false, max, List, [], ◌∷◌, nat_lt, if◌then◌else◌, Option, Some, None}
-use Rattle.journal_entry.specs.Entries.{Entry}
-
--- the later one of two moments, where there may be none yet
-abbrev pub later_of : Option ℕ → ℕ → Option ℕ
-later_of None t = Some t
-later_of (Some last) t = Some (max last t)
-
-abbrev pub latest_from : Option ℕ → List Entry → Option ℕ
-latest_from last [] = last
-latest_from last (e ∷ entries) = latest_from (later_of last e.at) entries
-
--- the latest moment of a journal's entries
-abbrev pub latest : List Entry → Option ℕ
-latest entries = latest_from None entries
+use Rattle.std.specs.Prelude.{ℕ, ◌+◌, Bool, false, List, [], ◌∷◌, nat_lt, if◌then◌else◌, Option, Some, None}
 
 -- whether a journal whose latest entry is of this moment has one that is later than another moment
 abbrev pub is_covered : Option ℕ → ℕ → Bool

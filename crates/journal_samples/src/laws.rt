@@ -1,4 +1,5 @@
-//! Laws of samples. Each function's contract is the law; the functions do nothing.
+//! Laws of samples and replies. Each function's contract is the law; the functions do nothing.
+ghost use Rattle.journal_samples.specs.Replies.{OthersCountForNothing, RepliesAsServed};
 ghost use Rattle.journal_samples.specs.Samples.{SamplesAreAnswers};
 ghost use Rattle.journal_samples.specs.Servers.{StandsAsServed};
 
@@ -11,4 +12,14 @@ pub fn samples_are_answers()
 /// with success; so a sample is what this server would have answered, whatever other operators asked.
 pub fn stands_as_served()
     ensures { StandsAsServed }
+{}
+
+/// The reply to an operator's call over what stands of it is what the whole server would have answered.
+pub fn replies_as_served()
+    ensures { RepliesAsServed }
+{}
+
+/// What stands of an operator after a journal's entries doesn't depend on other operators' entries.
+pub fn others_count_for_nothing()
+    ensures { OthersCountForNothing }
 {}

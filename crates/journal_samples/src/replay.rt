@@ -1,4 +1,4 @@
-//! The replay of a journal for one operator, with samples at moments.
+//! The replay of a journal for one operator, with samples at moments and replies to its calls.
 ghost use Rattle.std.specs.Prelude.{◌≡◌, ◌<◌, ◌≤◌, length, map, Some, IfOk, OnOk};
 ghost use Rattle.mds_request.specs.Configuration.{configuration};
 ghost use Rattle.journal_entry.specs.Entries.{entry_of};
@@ -11,7 +11,7 @@ use crate::sample::RuleSample;
 use crate::standing::OperatorStanding;
 use journal_entry::{JournalEntry, actor_by, request_by};
 use mds_catalog::Catalogue;
-use mds_request::{Actor, Config};
+use mds_request::{Actor, Config, OperatorCall, Reply, Request};
 use mds_text::Moment;
 use std::alloc::{AllocError, Global};
 
@@ -53,6 +53,8 @@ impl<'a> OperatorReplay<'a> {
     ghost use Rattle.journal_samples.specs.Samples.{samples_by};
     ghost use Rattle.journal_samples.specs.Standing.{after_entries, after_entry, new_standing};
     ghost use Rattle.journal_samples.specs.Held.{standing_of};
+    ghost use Rattle.journal_samples.specs.Replies.{IsReplyAt};
+    ghost use Rattle.mds_request.specs.Request.{request_of};
 
     /// A replay that has answered nothing, for the operator at this place of the configuration.
     ///
@@ -143,6 +145,26 @@ impl<'a> OperatorReplay<'a> {
             self.standing.push_samples(alloc, &mut found, *at)?;
         }
         Ok(found)
+    }
+
+    /// The reply to a call of the operator, as this request makes it at its moment: over what the entries make that stand
+    /// in front of the first one whose moment is later. It may be the refusal for being out of memory.
+    ///
+    /// # Errors
+    ///
+    /// `Refused` with the first entry that isn't answered with success. Then the replay must not be used.
+    #[tactic(auto, using(crate::proofs::Replies::replied))]
+    pub fn reply(
+        &mut self,
+        alloc: Global,
+        entries: &[JournalEntry<'_>],
+        call: &OperatorCall,
+        request: &Request<'_>,
+    ) -> Result<Reply, SampleFault>
+        ensures { IfOk result (IsReplyAt (standing_of self.old.standing) (map entry_of entries.now) call.now (request_of request.now)) }
+    {
+        let _count = self.advance(alloc, 0, entries, request.at)?;
+        Ok(self.standing.operator_call(alloc, call, request))
     }
 
     /// What was published by the last moment.

@@ -120,7 +120,12 @@ impl<'a> OperatorStanding<'a> {
 
     /// Answers a call of the operator.
     #[tactic(auto, using(crate::proofs::Held::own))]
-    fn operator_call(&mut self, alloc: Global, call: &OperatorCall, request: &Request<'_>) -> Reply
+    pub(crate) fn operator_call(
+        &mut self,
+        alloc: Global,
+        call: &OperatorCall,
+        request: &Request<'_>,
+    ) -> Reply
         ensures { Gives (Unit {0}) (standing_of self.old) (call_does (standing_of self.old) (call_kinds.Operator self.old.place call.now) (request_of request.now)) result (standing_of self.new) }
     {
         operator_step(

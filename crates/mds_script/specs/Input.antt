@@ -62,6 +62,10 @@ abbrev pub is_moment : List ℕ → Bool
 is_moment digits =
     nat_le 1 (length digits) && nat_le (length digits) 13 && are_digits digits && nat_le (decimal digits) last_moment
 
+-- the moment that they write
+abbrev pub moment_of : List ℕ → Option ℕ
+moment_of digits = if is_moment digits then Some (decimal digits) else None
+
 -- the request of these words, or none where one of the first four is empty or the first is no moment
 unfoldable pub request_from : List ℕ → List ℕ → List ℕ → List ℕ → List ℕ → Option Request
 request_from at token method target body =

@@ -1,6 +1,6 @@
 //! Splits a line of the script into the parts of a request.
 ghost use Rattle.std.specs.Prelude.{◌≡◌, ◌^◌, ◌<◌, ◌≤◌, length, Some, None, IfSome, option_map, if◌then◌else◌};
-ghost use Rattle.mds_script.specs.Input.{word_of, behind_word, are_digits, decimal, is_moment, request_from, request_on};
+ghost use Rattle.mds_script.specs.Input.{word_of, behind_word, are_digits, decimal, moment_of, request_from, request_on};
 ghost use Rattle.mds_request.specs.Request.{request_of};
 
 use crate::gather::position_of;
@@ -57,9 +57,10 @@ fn split_word(bytes: &[u8]) -> (&[u8], &[u8])
     }
 }
 
-/// The moment written as 1 to 13 digits.
-fn moment_of(digits: &[u8]) -> Option<Moment>
-    ensures { result ≡ (if is_moment digits.now then Some (decimal digits.now) else None) }
+/// The moment written as 1 to 13 digits, in milliseconds since the Unix epoch: leading zeros are allowed. `None` where
+/// there is another byte or another number of them, or for a moment after the last one.
+pub fn moment_of(digits: &[u8]) -> Option<Moment>
+    ensures { result ≡ moment_of digits.now }
 {
     if digits.is_empty() || digits.len() > 13 {
         return None;

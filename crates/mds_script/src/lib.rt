@@ -14,6 +14,7 @@ mod streams;
 mod world;
 mod write;
 
+pub use cut::moment_of;
 pub use fault::ReplayFault;
 pub use gather::LINE_LIMIT;
 pub use line_end::without_end;

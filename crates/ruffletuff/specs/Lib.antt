@@ -1,4 +1,1 @@
 pub mod Ends
-pub mod Full
-pub mod Progress
-pub mod Starting

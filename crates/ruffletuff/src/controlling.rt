@@ -3,11 +3,11 @@
 use crate::admin::AdminState;
 use crate::host::ServerHost;
 use crate::opening::{ConfigWithText, serve_city};
-use crate::thread_job::{ThreadJob, run_concurrently};
 use cli_args::ServeOptions;
 use cli_journal::ExitCause;
 use server_control::{Port, PortWaker, StopServer, serve_control};
 use server_http::ShutdownHandle;
+use server_journal::{ThreadJob, run_concurrently};
 use std::alloc::AllocGlobal;
 use std::fs::{File, Files};
 use std::net::{Net, TcpListener, TcpStream};

@@ -4,19 +4,15 @@
 
 mod admin;
 mod arguments;
-mod compactor;
+mod city_journals;
 mod controlling;
 mod counting;
-mod file_swap;
 mod host;
+mod journal_exit;
 mod listening;
 mod opening;
-mod progress;
-mod reporting_space;
 mod running;
 mod serving;
-mod starting;
-mod thread_job;
 
 use running::run;
 use std::process::ExitCode;

@@ -3,23 +3,20 @@ ghost use Rattle.std.specs.Prelude.{◌≡◌, ℕ, List, IfOk};
 ghost use Rattle.mds_request.specs.Configuration.{configuration};
 ghost use Rattle.mds_snapshot.specs.Opening.{book_of};
 ghost use Rattle.journal_recovery.specs.Recovery.{server_of};
-ghost use Rattle.ruffletuff.specs.Starting.{IsStartedFromLog};
+ghost use Rattle.server_journal.specs.Starting.{IsStartedFromLog};
 
 use crate::admin::AdminState;
-use crate::compactor::Compactor;
-use crate::file_swap::{FileJournal, JournalHandoff, JournalSwapper};
 use crate::host::{ServerHost, ThreadHost};
+use crate::journal_exit::report_fault;
 use crate::listening::{BoundListener, listen};
-use crate::reporting_space::ReportingSpace;
 use crate::serving::{ServingParts, persist_and_serve};
-use crate::starting::{dropped_ids, start};
-use crate::thread_job::run_concurrently;
 use cli_args::ServeOptions;
-use cli_journal::{ExitCause, clear, journal_length, report_cut};
+use cli_config::Limits;
+use cli_journal::{ExitCause, clear, ensure_compactions, journal_length, report_cut};
 use journal_commit::{Ballast, Space, UnnamedHistory};
 use journal_compaction::AnswersAgree;
 use journal_file::{FileStorage, HasLogEnd, Journal, Log};
-use journal_folder::{CutFiles, Folder, FolderFault, Folders, begin_journal, open_folder};
+use journal_folder::{CutFiles, Folder, FolderFault, Folders, open_folder};
 use journal_swap::{CompactionSchedule, CompactionSource, Handoff, SwapLog};
 use mds_desk::{AuthorRoom, Desk};
 use mds_request::Config;
@@ -27,6 +24,10 @@ use mds_snapshot::{Blank, prepare};
 use mds_text::Id;
 use server_control::{Counters, Figure};
 use server_http::Queues;
+use server_journal::{
+    Compactor, FileJournal, JournalHandoff, JournalSwapper, ReportingSpace, dropped_ids, resume,
+    run_concurrently,
+};
 use server_start::workers;
 use server_state::{Hall, HallName};
 use std::alloc::AllocGlobal;
@@ -63,6 +64,8 @@ pub struct ConfigWithText<'a> {
 struct CityOpening<'a> {
     /// The city's folder.
     folder: &'a str,
+    /// The folder in which its journals are archived; `None` for nowhere.
+    archive: Option<&'a str>,
     /// The listener, and the threads that are to serve its connections.
     listening: BoundListener,
     /// The operator whose entries are left out.
@@ -80,14 +83,14 @@ impl CityOpening<'_> {
     ///
     /// # Errors
     ///
-    /// As `JournalSwapper::new`.
+    /// `Folder` as `JournalSwapper::new`, `NoMemory`.
     fn journal_swapper<R: Folders + AllocGlobal + Copy + Drop>(
         &self,
         rt: &R,
     ) -> Result<JournalSwapper<R>, ExitCause> {
         let meeting = Arc::try_clone(self.meeting)?;
         let counters = Arc::try_clone(self.board.shared)?;
-        JournalSwapper::new(*rt, rt.alloc(), self.folder, meeting, counters)
+        Ok(JournalSwapper::new(*rt, rt.alloc(), self.folder, meeting, counters)?)
     }
 }
 
@@ -131,6 +134,7 @@ where
     };
     let opening = CityOpening {
         folder: service.state,
+        archive: service.archive,
         listening,
         dropped: service.dropped,
         config,
@@ -173,8 +177,8 @@ fn open_and_serve<R: ServerHost + Files<File = File>>(
     }
 }
 
-/// Opens the journal of a city whose folder is open, and serves the city until it is to end. `run_concurrently` swaps the
-/// journal's file for compacted ones.
+/// Opens the journal of a city whose folder is open, and serves the city until it is to end. `beside` swaps the journal's
+/// file for compacted ones.
 ///
 /// # Errors
 ///
@@ -185,6 +189,7 @@ fn serve_with_swaps<
 >(rt: &R, opening: CityOpening<'_>, beside: B) -> Result<(), ExitCause> {
     let CityOpening {
         folder,
+        archive,
         listening,
         dropped,
         config,
@@ -200,6 +205,7 @@ fn serve_with_swaps<
     let dropped = dropped_ids(rt.alloc(), dropped)?;
     let stage = ServingParts {
         folder,
+        archive,
         listening,
         dropped: &dropped,
         queues: Queues::new(rt.alloc(), &config)?,
@@ -209,7 +215,8 @@ fn serve_with_swaps<
     serve_journal(rt, journal, beside, space, config, stage)
 }
 
-/// Reads the journal of a folder, cuts off what wasn't synced, and serves its city until it is to end.
+/// Reads the journal of a folder, cuts off what wasn't synced, sees to it that what was compacted of it is recorded, and
+/// serves its city until it is to end.
 ///
 /// # Errors
 ///
@@ -233,10 +240,11 @@ where
     };
     report_cut(rt, log.cut());
     count_bytes(rt, stage.folder, stage.board.counters);
+    ensure_compactions(rt, stage.folder)?;
     serve_swap_log(rt, log, beside, space, config, stage)
 }
 
-/// Starts a server from a log, whose file is swapped from now on for compacted ones by `run_concurrently`, and serves it.
+/// Starts a server from a log, whose file is swapped from now on for compacted ones by `beside`, and serves it.
 ///
 /// # Errors
 ///
@@ -284,13 +292,13 @@ where
     serve_opening::<Brand, L, S, R>(rt, log, space, config, blank, stage)
 }
 
-/// The author's room and the desks, as the server that wrote this log left them. An empty log gets the configuration's
-/// head as its first payload.
+/// The author's room and the desks, as the server that wrote this log left them: see `server_journal::resume`. Where
+/// the limit of an operator is too low for the journal, that is reported.
 ///
 /// # Errors
 ///
-/// `Folder` where the log couldn't be read or begun, or as `start`.
-fn resume<K: HallName, L: Log, R: ThreadHost + Wait>(
+/// As `exit_of` says of `resume`, and `NoMemory`.
+fn resume_and_report<K: HallName, L: Log, R: ThreadHost + Wait>(
     rt: &R,
     log: &mut L,
     config: Config,
@@ -300,20 +308,21 @@ fn resume<K: HallName, L: Log, R: ThreadHost + Wait>(
 ) -> Result<(AuthorRoom<K>, Vec<Desk<K>>), ExitCause>
     requires book { book_of blank ≡ K.book }
     requires listed { (first : List (List ℕ)) × L.may_be log.old first }
-    ensures { IfOk result (λ r. IsStartedFromLog (L.may_be log.new) (configuration config) dropped.now (server_of r.0 r.1.items)) }
+    ensures { IfOk result (λ r. IsStartedFromLog (L.may_be log.new) (configuration config) dropped.now
+        (server_of r.0 r.1.items)) }
 {
-    let texts = match begin_journal(rt.alloc(), log, &config) {
-        Ok(texts) => texts,
-        Err(fault) => return Err(ExitCause::Folder(fault)),
-    };
-    start::<K, R>(rt, &texts, config, blank, dropped, counters)
+    let limits = Limits::of(rt.alloc(), &config)?;
+    match resume::<K, L, R>(rt, log, config, blank, dropped, counters) {
+        Ok(resumed) => Ok(resumed),
+        Err(fault) => Err(report_fault(rt, &limits, &fault)),
+    }
 }
 
 /// Starts a server from a log, under the name of one opening, and serves it.
 ///
 /// # Errors
 ///
-/// As `resume`, `Folder` where the log couldn't be continued, or as `persist_and_serve`.
+/// As `resume_and_report`, `Folder` where the log couldn't be continued, or as `persist_and_serve`.
 fn serve_opening<K: HallName + Send + Sync, L: Log + Send, S: Space + Send, R>(
     rt: &R,
     log: L,
@@ -331,7 +340,14 @@ where
 {
     let mut log = log;
     let counters = stage.board.counters;
-    let (room, desks) = resume::<K, L, R>(rt, &mut log, config, blank, stage.dropped, counters)?;
+    let (room, desks) = resume_and_report::<K, L, R>(
+        rt,
+        &mut log,
+        config,
+        blank,
+        stage.dropped,
+        counters,
+    )?;
     let hall = Hall::<K>::of(rt, rt.alloc(), room, desks)?;
     let Ok(history) = UnnamedHistory::new(&mut log) else {
         hall.finish(rt);

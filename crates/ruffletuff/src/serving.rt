@@ -3,10 +3,10 @@ ghost use Rattle.std.specs.Prelude.{◌≡◌, ℕ, List, IfOk, Ok};
 ghost use Rattle.ruffletuff.specs.Ends.{outcome_of};
 
 use crate::admin::AdminState;
+use crate::city_journals::CityJournals;
 use crate::counting::count_vehicles;
 use crate::host::ServerHost;
 use crate::listening::BoundListener;
-use crate::thread_job::{ThreadJob, run_concurrently};
 use cli_journal::{ExitCause, operator_names_in};
 use journal_commit::{
     CommitLog, FlushFault, Flusher, LogName, SharedLogName, Space, UnnamedHistory, open,
@@ -16,6 +16,8 @@ use mds_parallel::Chunked;
 use mds_text::Id;
 use server_durable::DurableHall;
 use server_http::{Queues, ServeOutcome, ShutdownHandle, serve_by};
+use server_journal::{ThreadJob, run_concurrently};
+use server_past::PastJournals;
 use server_site::Site;
 use server_state::{Hall, HallName, SharedHallName};
 use std::alloc::Global;
@@ -27,6 +29,8 @@ use std::sync::{Arc, Wait};
 pub struct ServingParts<'a> {
     /// The city's folder.
     pub folder: &'a str,
+    /// The folder in which its journals are archived; `None` for nowhere.
+    pub archive: Option<&'a str>,
     /// The listener, and the threads that are to serve its connections.
     pub listening: BoundListener,
     /// The operators whose entries are left out.
@@ -62,9 +66,9 @@ impl<N: LogName, L: Log, S: Space, R: Wait + Drop> ThreadJob for FlusherJob<'_, 
 
 /// A site, and what answering its requests needs.
 #[derive(Drop)]
-struct SiteServer<'a, K: HallName, N: LogName, L: Log, S: Space, R> {
+struct SiteServer<'a, K: HallName, N: LogName, L: Log, S: Space, R, P> {
     listening: BoundListener,
-    site: Site<'a, K, N, L, S, R, Chunked<R>>,
+    site: Site<'a, K, N, L, S, R, Chunked<R>, P>,
     keeper: &'a CommitLog<N, L, S>,
     queues: Queues,
     closing: &'a ShutdownHandle,
@@ -75,16 +79,17 @@ struct SiteServer<'a, K: HallName, N: LogName, L: Log, S: Space, R> {
 /// # Errors
 ///
 /// The server couldn't be started.
-fn serve_to_the_end<'a, K, N, L, S, R>(
+fn serve_to_the_end<'a, K, N, L, S, R, P>(
     rt: &R,
-    serving: SiteServer<'a, K, N, L, S, R>,
-) -> io::Result<ServeOutcome<Site<'a, K, N, L, S, R, Chunked<R>>>>
+    serving: SiteServer<'a, K, N, L, S, R, P>,
+) -> io::Result<ServeOutcome<Site<'a, K, N, L, S, R, Chunked<R>, P>>>
 where
     K: SharedHallName,
     N: SharedLogName,
     L: Log + Send,
     S: Space + Send,
     R: ServerHost,
+    P: PastJournals + Send + Sync + Drop,
 {
     let SiteServer {
         listening,
@@ -165,7 +170,15 @@ where
     R: ServerHost,
 {
     let board = stage.board;
-    let site = Site::open(rt, city, Chunked(*rt), board.configuration, board.counters)?;
+    let journals = CityJournals::new(*rt, rt.alloc(), stage.folder, stage.archive)?;
+    let site = Site::open(
+        rt,
+        city,
+        Chunked(*rt),
+        journals,
+        board.configuration,
+        board.counters,
+    )?;
     announce(rt, board, site.window.is_some());
     let flushing = FlusherJob {
         rt: *rt,
@@ -189,10 +202,10 @@ where
 /// # Errors
 ///
 /// As `outcome_of`.
-fn finish<K: HallName, N: LogName, L: Log, S: Space, R: Wait + Drop>(
+fn finish<K: HallName, N: LogName, L: Log, S: Space, R: Wait + Drop, P: Drop>(
     rt: &R,
     flushed: Result<(), FlushFault>,
-    ended: io::Result<ServeOutcome<Site<'_, K, N, L, S, R, Chunked<R>>>>,
+    ended: io::Result<ServeOutcome<Site<'_, K, N, L, S, R, Chunked<R>, P>>>,
 ) -> Result<(), ExitCause> {
     let is_served = match ended {
         Ok(ServeOutcome { answers, outcome }) => {

@@ -5,10 +5,10 @@ pub mod Cities
 mod Cutting
 mod Own
 mod OwnBodies
-mod OwnTokens
+pub mod OwnTokens
 mod OwnViews
 mod Reports
-mod Responses
+pub mod Responses
 mod Runs
 mod Told
 mod Turns

@@ -69,9 +69,9 @@ unlike_is : (made configuration : Configuration) (b : Bool) → cond b (Err alik
 unlike_is made configuration true is = absurd cc
 unlike_is made configuration false is = (refl, same_ok made configuration is)
 
--- a configuration that was read has no access token twice
-alone_in : (text : List ℕ) (c : Configuration) → read_configuration text ≡ Ok c → repeats (c.author ∷ tokens c.operators) ≡ false
-alone_in text c is =
+-- a configuration that was read has no identifier and no access token twice
+unlike_in : (text : List ℕ) (c : Configuration) → read_configuration text ≡ Ok c → has_alike c ≡ false
+unlike_in text c is =
     let tree = second_ok (read_text text) configuration_of c is in
     let document = second_ok (document_of tree.0) _ c tree.1 in
     let author = second_ok (access_at document.0 AuthorName) _ c document.1 in
@@ -79,8 +79,12 @@ alone_in text c is =
     let zone = second_ok (zone_at document.0) _ c operators.1 in
     let made : Configuration = record { author = author.0; operators = operators.0; zone = zone.0 } in
     let unlike = unlike_is made c (has_alike made) zone.1 in
-    ap (λ (x : Configuration). repeats (x.author ∷ tokens x.operators)) (sym unlike.1)
-    ∙ (apart (repeats (ids made.operators)) (repeats (made.author ∷ tokens made.operators)) unlike.0).1
+    ap has_alike (sym unlike.1) ∙ unlike.0
+
+-- so no identifier of an operator twice, and no access token
+pub alone_in : (text : List ℕ) (c : Configuration) → read_configuration text ≡ Ok c
+    → (repeats (ids c.operators) ≡ false) × (repeats (c.author ∷ tokens c.operators) ≡ false)
+alone_in text c is = apart (repeats (ids c.operators)) (repeats (c.author ∷ tokens c.operators)) (unlike_in text c is)
 
 pub asked_by_operator : ViewsAreAskedByTheOperator
-asked_by_operator text c place operator view at is placed_is = asks c place operator (alone_in text c is) placed_is
+asked_by_operator text c place operator view at is placed_is = asks c place operator (alone_in text c is).1 placed_is

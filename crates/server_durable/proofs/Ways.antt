@@ -28,14 +28,15 @@ use Rattle.server_routes.specs.App.{app_of}
 use Rattle.server_routes.specs.State.{app_call, own_call, state_call}
 use Rattle.server_routes.specs.declared.app.AppCall.{AppCall}
 use Rattle.server_routes.specs.declared.app.AppCall.TheVariants.{Events, Fleet, FleetOf, NoOperator, Told}
-use Rattle.server_routes.specs.declared.app.FleetView.{FleetView}
 use Rattle.server_routes.specs.declared.app.FleetView.TheVariants.{Compliance, Vehicles}
 use Rattle.server_routes.specs.declared.app.Question.{Question}
 use Rattle.server_routes.specs.declared.app.Question.TheVariants.{Whoami, Withdrawals, Drafts}
 use Rattle.server_routes.specs.declared.state.StateCall.{StateCall}
-use Rattle.server_routes.specs.declared.state.StateCall.TheVariants.{Call as OfProtocol, Reports, AuthorAsks, OperatorAsks, OwnFleet, OperatorFleet, EachCompliance}
+use Rattle.server_routes.specs.declared.state.FleetQuestion.{FleetQuestion}
+use Rattle.server_routes.specs.declared.state.FleetQuestion.TheVariants.{Own, Of, EachCompliance}
+use Rattle.server_routes.specs.declared.state.StateCall.TheVariants.{Call as OfProtocol, Reports, AuthorAsks, OperatorAsks, AsksFleet}
 use Rattle.server_durable.specs.DurableResponse.{Answers, IsAnswered, IsAnsweredAs, IsAnsweredBy, IsTold}
-use Rattle.server_durable.specs.FleetViews.{IsEachCompliance, IsOwnView, IsViewOf}
+use Rattle.server_durable.specs.FleetViews.{IsAskedWithin, IsFleetReply}
 use Rattle.server_durable.specs.Many.{ManyAreAnswered}
 use Rattle.server_durable.specs.People.{SaysTold, TellsAuthor, TellsOperator}
 use Rattle.server_durable.specs.CacheControl.{Waits}
@@ -47,14 +48,17 @@ way actor found called = unwrap_or (option_map (app_call actor) found) (own_call
 
 -- ---- what a call at the city's state says of the client, or of the call of the protocol
 
+abbrev IsAskedBy : Actor → FleetQuestion → Type 0
+IsAskedBy actor (Own place view) = actor ≡ Operator place
+IsAskedBy actor (Of view id) = actor ≡ Author
+IsAskedBy actor EachCompliance = actor ≡ Author
+
 abbrev IsWay : Actor → Result Call Code → Result StateCall Code → Type 0
 IsWay actor called (Ok (OfProtocol call)) = called ≡ Ok call
 IsWay actor called (Ok (Reports place)) = actor ≡ Operator place
 IsWay actor called (Ok (AuthorAsks question)) = actor ≡ Author
 IsWay actor called (Ok (OperatorAsks place question)) = actor ≡ Operator place
-IsWay actor called (Ok (OwnFleet place view)) = actor ≡ Operator place
-IsWay actor called (Ok (OperatorFleet view id)) = actor ≡ Author
-IsWay actor called (Ok EachCompliance) = actor ≡ Author
+IsWay actor called (Ok (AsksFleet question)) = IsAskedBy actor question
 IsWay actor called (Err code) = Unit {0}
 
 beside : (actor : Actor) (call : Result AppCall Code) (called : Result Call Code) → IsWay actor called (app_call actor call)
@@ -121,9 +125,11 @@ module _ (configuration : Configuration) (request : Request) (call : Result Stat
       subst (IsWithin (length configuration.operators)) (its_way (Ok (OperatorAsks place question)) is) (is_within configuration request.token)
 
   -- so has one that asks for a view of its own fleet
-  pub owner_within : (place : ℕ) (view : FleetView) → call ≡ Ok (OwnFleet place view) → place < length configuration.operators
-  owner_within place view is =
-      subst (IsWithin (length configuration.operators)) (its_way (Ok (OwnFleet place view)) is) (is_within configuration request.token)
+  pub asker_within : (question : FleetQuestion) → call ≡ Ok (AsksFleet question) → IsAskedWithin (length configuration.operators) question
+  asker_within (Own place view) is =
+      subst (IsWithin (length configuration.operators)) (its_way (Ok (AsksFleet (Own place view))) is) (is_within configuration request.token)
+  asker_within (Of view id) is = tt
+  asker_within EachCompliance is = tt
 
 -- ---- the response
 
@@ -133,9 +139,7 @@ Gives configuration badges actor request stamp response (Ok (OfProtocol call)) =
 Gives configuration badges actor request stamp response (Ok (Reports place)) = ManyAreAnswered configuration place request stamp response
 Gives configuration badges actor request stamp response (Ok (AuthorAsks question)) = SaysTold (TellsAuthor configuration badges question) response
 Gives configuration badges actor request stamp response (Ok (OperatorAsks place question)) = SaysTold (TellsOperator configuration badges place question) response
-Gives configuration badges actor request stamp response (Ok (OwnFleet place view)) = SaysOne (IsOwnView configuration place view request.at) response
-Gives configuration badges actor request stamp response (Ok (OperatorFleet view id)) = SaysOne (IsViewOf configuration badges view id request.at) response
-Gives configuration badges actor request stamp response (Ok EachCompliance) = SaysOne (IsEachCompliance configuration badges request.at) response
+Gives configuration badges actor request stamp response (Ok (AsksFleet question)) = SaysOne (IsFleetReply configuration badges request.at question) response
 Gives configuration badges actor request stamp response (Err code) = Says response (refused code)
 
 module _ (configuration : Configuration) (badges : Badges) (request : Request) (stamp : List (List ℕ)) (response : Response (Full (List ℕ))) where

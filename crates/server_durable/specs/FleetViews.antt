@@ -1,6 +1,6 @@
 -- Views of an operator's fleet: what its own desk answers it. An operator sees its own, and the author each operator's,
 -- as far as the configuration's oversight goes.
-use Rattle.std.specs.Prelude.{◌≡◌, ◌⊎◌, ℕ, suc, List, [], ◌∷◌, Bool, true, false, bytes_eq, codes, length, Option, Some, None, position, slice_get}
+use Rattle.std.specs.Prelude.{◌≡◌, ◌⊎◌, ◌<◌, ℕ, suc, List, [], ◌∷◌, Bool, true, false, bytes_eq, codes, length, Option, Some, None, position, slice_get}
 use Rattle.mds_request.specs.Configuration.{Configuration, Operator}
 use Rattle.mds_request.specs.Reply.{Reply, refused, success}
 use Rattle.mds_request.specs.Request.{Request}
@@ -12,6 +12,8 @@ use Rattle.server_app.specs.declared.oversight.Oversight.{Oversight}
 use Rattle.server_app.specs.declared.oversight.Oversight.TheVariants as oversight
 use Rattle.server_routes.specs.declared.app.FleetView.{FleetView}
 use Rattle.server_routes.specs.declared.app.FleetView.TheVariants.{Compliance, Vehicles}
+use Rattle.server_routes.specs.declared.state.FleetQuestion.{FleetQuestion}
+use Rattle.server_routes.specs.declared.state.FleetQuestion.TheVariants.{Own, Of, EachCompliance}
 use Rattle.server_state.specs.Turn.{DeskReplies}
 
 -- the call of the protocol that has the view
@@ -79,3 +81,14 @@ abbrev pub IsEachCompliance : Configuration → Badges → ℕ → Reply → Typ
 IsEachCompliance configuration badges at =
     IfCovered (covers badges.oversight Compliance)
     (λ reply. IsOfEach configuration badges at reply ⊎ IsRefusedByOne configuration at reply)
+
+-- the reply to a question about fleets
+abbrev pub IsFleetReply : Configuration → Badges → ℕ → FleetQuestion → Reply → Type 0
+IsFleetReply configuration badges at (Own place view) = IsOwnView configuration place view at
+IsFleetReply configuration badges at (Of view id) = IsViewOf configuration badges view id at
+IsFleetReply configuration badges at EachCompliance = IsEachCompliance configuration badges at
+
+-- an operator that asks has its place among so many
+abbrev pub IsAskedWithin : ℕ → FleetQuestion → Type 0
+IsAskedWithin n (Own place view) = place < n
+IsAskedWithin n question = Unit {0}

@@ -28,11 +28,11 @@ use journal_file::Log;
 use journal_laws::may_change;
 use mds_catalog::Catalogue;
 use mds_desk::{OpenGate, SharedReply};
-use mds_request::{AuthorCall, Call, Code, OperatorCall};
+use mds_request::{AuthorCall, Call, Code, Config, OperatorCall};
 use mds_verdict::Evaluator;
 use server_app::OperatorNames;
 use server_state::{Hall, HallName, WholeRequest, response};
-use std::alloc::Global;
+use std::alloc::{AllocError, Global};
 use std::marker::Brand;
 use std::sync::{Arc, Wait};
 
@@ -90,6 +90,38 @@ impl<K: HallName, N: LogName, L: Log, S: Space> DurableHall<K, N, L, S> {
     /// The log position of all that has been appended by now.
     pub(crate) fn current_position(&self) -> LogPosition<N, L> {
         self.keeper.log_position(&self.nothing)
+    }
+
+    /// A reference to the configuration.
+    ///
+    /// # Errors
+    ///
+    /// There are too many references.
+    pub fn configuration(&self) -> Result<Arc<Config>, AllocError>
+        ensures { IfOk result (λ c. configuration c.value ≡ K.configuration) }
+    {
+        self.hall.configuration()
+    }
+
+    /// The names under which people know the operators.
+    pub fn operator_names(&self) -> &OperatorNames
+        ensures { result.now ≡ self.now.badges }
+    {
+        &self.badges
+    }
+
+    /// A response that waits until all that has been appended by now is synced, and that no cache may store.
+    ///
+    /// # Errors
+    ///
+    /// Out of memory for its header field, or too many references.
+    pub fn respond_now(
+        &self,
+        response: Response<Full<Bytes>>,
+    ) -> Result<ResponseAfterSync<N, L, S>, NoResponse>
+        ensures { IfOk result (λ s. Waits (λ plain. plain ≡ response) s.reply) }
+    {
+        self.await_sync(self.current_position(), response)
     }
 
     /// A response that waits until all of a log position is synced, and that no cache may store.

@@ -6,14 +6,14 @@ ghost use Rattle.mds_request.specs.Configuration.{configuration, operator as ope
 ghost use Rattle.mds_request.specs.Request.{request_of};
 ghost use Rattle.server_app.specs.ComplianceList.{compliance_list, entries_text};
 ghost use Rattle.server_app.specs.OperatorNames.{badge_view, badges_view};
-ghost use Rattle.server_state.specs.Response.{Says};
 ghost use Rattle.server_state.specs.Turn.{SaysOne};
 ghost use Rattle.server_durable.specs.CacheControl.{Waits};
 ghost use Rattle.server_durable.specs.declared.fleet_views.ComplianceAnswers.TheVariants.{Refusal, Successes};
-ghost use Rattle.server_durable.specs.FleetViews.{AreOwnBodies, IsEachCompliance, IsOwnView, IsRefusedByOne, IsViewOf, covers, own_request, place_of, target_for};
+ghost use Rattle.server_durable.specs.FleetViews.{AreOwnBodies, IsAskedWithin, IsEachCompliance, IsFleetReply, IsOwnView};
+ghost use Rattle.server_durable.specs.FleetViews.{IsRefusedByOne, IsViewOf, covers, own_request, place_of, target_for};
 
 use crate::context::Context;
-use crate::durable_hall::{AnswerAtPosition, DurableHall};
+use crate::durable_hall::DurableHall;
 use crate::pending::{NoResponse, ResponseAfterSync};
 use crate::records::is_accepted;
 use bytes::Bytes;
@@ -25,13 +25,14 @@ use mds_request::{Code, Config, Operator, Request, Verb};
 use mds_text::{Id, Moment};
 use mds_verdict::Evaluator;
 use server_app::{OperatorName, Oversight, begin_compliance_list, push_compliance};
-use server_routes::FleetView;
-use server_state::HallName;
+use server_routes::{FleetQuestion, FleetView};
+use server_state::{HallName, response};
 use std::alloc::{AllocError, Global};
 use std::sync::Wait;
+use std::thread;
 
-/// Whether the author has such views.
-fn covers(oversight: Oversight, view: FleetView) -> bool
+/// Whether the author has such views, as far as this goes.
+pub fn covers(oversight: Oversight, view: FleetView) -> bool
     ensures { result ≡ covers oversight view }
 {
     match (oversight, view) {
@@ -52,8 +53,8 @@ fn target_for(view: FleetView) -> &'static [u8]
     }
 }
 
-/// An operator's own request for a view.
-fn own_request(operator: &Operator, view: FleetView, at: Moment) -> Request<'_>
+/// An operator's own request for a view, with its access token.
+pub fn own_request(operator: &Operator, view: FleetView, at: Moment) -> Request<'_>
     ensures { request_of result ≡ own_request (operator_view operator.now) view at }
 {
     Request {
@@ -82,8 +83,8 @@ fn place_among(operators: &[Operator], id: Id) -> Option<usize>
         .position(|operator| are_same(id, operator.id))
 }
 
-/// The place of the operator with this identifier.
-fn place_of(config: &Config, id: Id) -> Option<usize>
+/// The place of the operator with this identifier in a configuration; `None` where it has none.
+pub fn place_of(config: &Config, id: Id) -> Option<usize>
     ensures place { result ≡ place_of (configuration config.now) id }
     ensures within { IfSome result (λ place. place < length (configuration config.now).operators) }
 {
@@ -122,8 +123,13 @@ fn push_entries(
     Ok(())
 }
 
-/// The answer about each operator's compliance, of the operators' own answers in their order.
-fn combine(
+/// The answer about each operator's compliance at a moment, of the operators' own answers in their order:
+/// `{"at":MOMENT,"operators":[..]}`.
+///
+/// # Errors
+///
+/// Out of memory.
+pub fn combine_compliance(
     alloc: Global,
     at: Moment,
     answers: &[SharedReply],
@@ -198,6 +204,8 @@ impl<K: HallName, N: LogName, L: Log, S: Space> DurableHall<K, N, L, S> {
                 return Ok(ComplianceAnswers::Refusal(answer));
             }
             answers.push_reserved(answer);
+            // What waits for this processor goes first: the author can wait.
+            thread::yield_now();
         }
         Ok(ComplianceAnswers::Successes(answers))
     }
@@ -246,35 +254,41 @@ impl<K: HallName, N: LogName, L: Log, S: Space> DurableHall<K, N, L, S> {
         match self.own_answers(context, at)? {
             ComplianceAnswers::Successes(answers) => {
                 let operators = self.badges.operators();
-                Ok(combine(context.alloc, at, &answers, operators)?)
+                Ok(combine_compliance(context.alloc, at, &answers, operators)?)
             }
             ComplianceAnswers::Refusal(answer) => Ok(answer),
         }
     }
 
-    /// The response with an answer, once all that has been appended by now is synced.
+    /// The reply to a question about fleets, as they are now.
     ///
     /// # Errors
     ///
-    /// Out of memory for the response.
-    fn reply_now(
+    /// Out of memory.
+    fn fleet_reply<R: Wait, E: Evaluator<Catalogue>>(
         &self,
-        alloc: Global,
-        answer: SharedReply,
-    ) -> Result<ResponseAfterSync<N, L, S>, NoResponse>
-        ensures { IfOk result (λ s. Waits (λ response. Says response answer) s.reply) }
+        context: &Context<'_, R, E>,
+        question: FleetQuestion,
+        at: Moment,
+    ) -> Result<SharedReply, CommitFault>
+        requires judge { E.may_judge }
+        requires within { IsAskedWithin (length K.configuration.operators) question }
+        ensures { IfOk result (IsFleetReply K.configuration (badges_view self.now.badges) at question) }
     {
-        let stamp = self.current_position();
-        self.reply(alloc, AnswerAtPosition { answer, stamp })
+        match question {
+            FleetQuestion::Own(place, view) => self.own_view(context, place, view, at),
+            FleetQuestion::Of(view, id) => self.view_of(context, view, id, at),
+            FleetQuestion::EachCompliance => self.each_compliance(context, at),
+        }
     }
 }
 
-/// Answers the operator at this place with a view of its own fleet.
+/// Answers a question about fleets, as they are now.
 ///
 /// # Errors
 ///
 /// Out of memory.
-pub(crate) fn answer_own_fleet<
+pub(crate) fn answer_fleet<
     K: HallName,
     N: LogName,
     R: Wait,
@@ -283,71 +297,19 @@ pub(crate) fn answer_own_fleet<
     S: Space,
 >(
     context: &Context<'_, R, E>,
-    place: usize,
-    view: FleetView,
+    question: FleetQuestion,
     at: Moment,
     city: &DurableHall<K, N, L, S>,
 ) -> Result<ResponseAfterSync<N, L, S>, NoResponse>
     requires judge { E.may_judge }
-    requires place { place < length K.configuration.operators }
-    ensures { IfOk result (λ s. Waits (SaysOne (IsOwnView K.configuration place view at)) s.reply) }
+    requires within { IsAskedWithin (length K.configuration.operators) question }
+    ensures { IfOk result (λ s. Waits (SaysOne (IsFleetReply K.configuration (badges_view city.now.badges) at question)) s.reply) }
 {
-    match city.own_view(context, place, view, at) {
-        Ok(answer) => city.reply_now(context.alloc, answer),
-        Err(fault) => Err(NoResponse::NotTold(fault)),
-    }
-}
-
-/// Answers the author with a view of the fleet of the operator with this identifier.
-///
-/// # Errors
-///
-/// Out of memory.
-pub(crate) fn answer_operator_fleet<
-    K: HallName,
-    N: LogName,
-    R: Wait,
-    E: Evaluator<Catalogue>,
-    L: Log,
-    S: Space,
->(
-    context: &Context<'_, R, E>,
-    view: FleetView,
-    id: Id,
-    at: Moment,
-    city: &DurableHall<K, N, L, S>,
-) -> Result<ResponseAfterSync<N, L, S>, NoResponse>
-    requires { E.may_judge }
-    ensures { IfOk result (λ s. Waits (SaysOne (IsViewOf K.configuration (badges_view city.now.badges) view id at)) s.reply) }
-{
-    match city.view_of(context, view, id, at) {
-        Ok(answer) => city.reply_now(context.alloc, answer),
-        Err(fault) => Err(NoResponse::NotTold(fault)),
-    }
-}
-
-/// Answers the author with a view of each operator's compliance.
-///
-/// # Errors
-///
-/// Out of memory.
-pub(crate) fn answer_each_compliance<
-    K: HallName,
-    N: LogName,
-    R: Wait,
-    E: Evaluator<Catalogue>,
-    L: Log,
-    S: Space,
->(
-    context: &Context<'_, R, E>,
-    at: Moment,
-    city: &DurableHall<K, N, L, S>,
-) -> Result<ResponseAfterSync<N, L, S>, NoResponse>
-    requires { E.may_judge }
-    ensures { IfOk result (λ s. Waits (SaysOne (IsEachCompliance K.configuration (badges_view city.now.badges) at)) s.reply) }
-{
-    match city.each_compliance(context, at) {
-        Ok(answer) => city.reply_now(context.alloc, answer),
+    match city.fleet_reply(context, question, at) {
+        Ok(answer) => {
+            let response = response(context.alloc, answer)?;
+            city.respond_now(response)
+        }
         Err(fault) => Err(NoResponse::NotTold(fault)),
     }
 }

@@ -22,6 +22,7 @@ mod service;
 pub use batch::MOST_REPORTS;
 pub use context::{Context, TurnRuntime};
 pub use durable_hall::DurableHall;
+pub use fleet_views::{combine_compliance, covers, own_request, place_of};
 pub use pending::{NoResponse, ResponseAfterSync};
 pub use pending_response::PendingResponse;
 pub use records::is_accepted;

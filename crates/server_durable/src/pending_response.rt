@@ -1,11 +1,12 @@
 //! A pending response.
-ghost use Rattle.std.specs.Prelude.{◌≡◌, Some, None};
+ghost use Rattle.std.specs.Prelude.{◌≡◌, IfOk, IfSome, Ok};
 
-use crate::pending::ResponseAfterSync;
+use crate::pending::{NoResponse, ResponseAfterSync};
 use futures::Future;
 use futures::task::{Context, Poll};
 use journal_commit::{LogName, Space};
 use journal_file::Log;
+use server_http::Crowded;
 use server_responses::HttpResult;
 use std::alloc::AllocError;
 
@@ -18,20 +19,23 @@ pub struct PendingResponse<N: LogName, L: Log, S: Space> {
 }
 
 impl<N: LogName, L: Log, S: Space> PendingResponse<N, L, S> {
-    /// A pending response.
-    pub(crate) fn of(pending: ResponseAfterSync<N, L, S>) -> PendingResponse<N, L, S>
-        ensures { result.told ≡ Some pending }
+    /// The pending response of what was answered: none within, where no response may be sent.
+    ///
+    /// # Errors
+    ///
+    /// The client's share of the log is used up: the request may be tried again.
+    pub fn of(
+        answered: Result<ResponseAfterSync<N, L, S>, NoResponse>,
+    ) -> Result<PendingResponse<N, L, S>, Crowded>
+        ensures { IfOk result (λ pending. IfSome pending.told (λ s. answered ≡ Ok s)) }
     {
-        PendingResponse {
-            told: Some(pending),
+        match answered {
+            Ok(pending) => Ok(PendingResponse {
+                told: Some(pending),
+            }),
+            Err(NoResponse::Crowded) => Err(Crowded),
+            Err(NoResponse::NotTold(_)) => Ok(PendingResponse { told: None }),
         }
-    }
-
-    /// No response may be sent.
-    pub(crate) fn nothing() -> PendingResponse<N, L, S>
-        ensures { result.told ≡ None }
-    {
-        PendingResponse { told: None }
     }
 }
 

@@ -10,7 +10,7 @@ ghost use Rattle.server_durable.specs.CacheControl.{Waits};
 
 use crate::context::{Context, TurnRuntime};
 use crate::durable_hall::{AnswerAtPosition, DurableHall};
-use crate::fleet_views::{answer_each_compliance, answer_operator_fleet, answer_own_fleet};
+use crate::fleet_views::answer_fleet;
 use crate::many::many_reports;
 use crate::pending::{NoResponse, ResponseAfterSync};
 use crate::people::{answer_author, answer_operator};
@@ -57,13 +57,9 @@ pub fn respond<K: HallName, N: LogName, R: TurnRuntime, E: Evaluator<Catalogue>,
         Ok(StateCall::OperatorAsks(place, question)) => {
             answer_operator(context.rt, context.alloc, *place, *question, city)
         }
-        Ok(StateCall::OwnFleet(place, view)) => {
-            answer_own_fleet(context, *place, *view, heard.moment(), city)
+        Ok(StateCall::AsksFleet(question)) => {
+            answer_fleet(context, *question, heard.moment(), city)
         }
-        Ok(StateCall::OperatorFleet(view, id)) => {
-            answer_operator_fleet(context, *view, *id, heard.moment(), city)
-        }
-        Ok(StateCall::EachCompliance) => answer_each_compliance(context, heard.moment(), city),
         Err(code) => city.refuse(context.alloc, *code),
     }
 }

@@ -2,12 +2,11 @@
 ghost use Rattle.std.specs.Prelude.{◌≡◌, Option, ℕ, IfOk, IfSome};
 ghost use Rattle.server_app.specs.OperatorNames.{badges_view};
 ghost use Rattle.server_routes.specs.Endpoint.{AsksFile, AsksPublic, AsksState};
-ghost use Rattle.server_routes.specs.declared.resolved.ResolvedHead.TheVariants.{Asset, Public, State};
+ghost use Rattle.server_routes.specs.declared.resolved.ResolvedHead.TheVariants.{Asset, Past, Public, State};
 ghost use Rattle.server_durable.specs.DurableResponse.{CityResponds};
 
 use crate::context::{Context, TurnRuntime};
 use crate::durable_hall::DurableHall;
-use crate::pending::NoResponse;
 use crate::pending_response::PendingResponse;
 use crate::responding::respond;
 use http::request::Parts;
@@ -50,6 +49,7 @@ impl<
         ensures { elim result [
           | Asset own file ↦ (own ≡ parts) × AsksFile parts file
           | Public own asked ↦ (own ≡ parts) × AsksPublic is_public parts asked
+          | Past head ↦ (head.parts ≡ parts) × AsksState is_public parts
           | State head ↦ (head.parts ≡ parts) × AsksState is_public parts
         ] }
     {
@@ -78,10 +78,6 @@ impl<
             alloc: self.alloc,
             evaluator: &self.evaluator,
         };
-        match respond(&context, head, body, at, &self.city) {
-            Ok(pending) => Ok(PendingResponse::of(pending)),
-            Err(NoResponse::Crowded) => Err(Crowded),
-            Err(NoResponse::NotTold(_)) => Ok(PendingResponse::nothing()),
-        }
+        PendingResponse::of(respond(&context, head, body, at, &self.city))
     }
 }

@@ -8,10 +8,9 @@ mod page_settings;
 mod response;
 mod tag;
 mod tagged_file;
-#[cfg(test)]
-mod tests;
 mod texts;
 
 pub use file::{FILES, File};
 pub use page::Page;
 pub use page_settings::PageSettings;
+pub use tag::{is_named, tag_of};

@@ -14,7 +14,7 @@ use std::alloc::{AllocError, Global};
 /// # Errors
 ///
 /// Out of memory.
-pub(crate) fn tag_of(alloc: Global, bytes: &[u8]) -> Result<Vec<u8>, AllocError>
+pub fn tag_of(alloc: Global, bytes: &[u8]) -> Result<Vec<u8>, AllocError>
     ensures { IfOk result (λ tag. tag.items ≡ tag_of bytes.now) }
 {
     let sum = hex::encode(alloc, Sha256::digest(bytes))?;
@@ -58,7 +58,7 @@ fn is_listed(list: &[u8], tag: &[u8]) -> bool
 }
 
 /// Whether a field line names the tag: by `*`, or in a list of tags.
-pub(crate) fn is_named(line: &[u8], tag: &[u8]) -> bool
+pub fn is_named(line: &[u8], tag: &[u8]) -> bool
     ensures { result ≡ is_named tag.now line.now }
 {
     trim_space(line) == b"*".as_slice() || is_listed(line, tag)

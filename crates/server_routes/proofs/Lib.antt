@@ -3,4 +3,5 @@ pub mod Apart
 mod Segments
 mod Beside
 mod Allowed
+mod PastQueries
 mod Targets

@@ -1,5 +1,31 @@
 -- The path of a head's target and that of its URI have the same segments.
-use Rattle.std.proofs.Common.{◌≡◌, ◌==◌, ◌||◌, ◌∷◌, [], List, ℕ, Bool, true, false, cond, codes, length, not, is_some, Option, Some, None, option_map, unwrap_or, arith, refl, sym, ap, ◌∙◌}
+use Rattle.std.proofs.Common.{
+  ◌≡◌,
+  ◌==◌,
+  ◌||◌,
+  ◌∷◌,
+  [],
+  List,
+  ℕ,
+  Bool,
+  true,
+  false,
+  cond,
+  codes,
+  length,
+  not,
+  is_some,
+  Option,
+  Some,
+  None,
+  option_map,
+  unwrap_or,
+  arith,
+  refl,
+  sym,
+  ap,
+  ◌∙◌,
+}
 use Rattle.std.specs.List.{before_first}
 use Rattle.std.specs.Option.{ForNone, ForSome}
 use Rattle.std.specs.Str.{is_utf8}
@@ -34,7 +60,8 @@ or_slashed : (text : List ℕ) → segments_in (or_slash text) ≡ segments_in t
 or_slashed text = slashed text (length text == 0) refl
 
 -- the target with `/` for nothing
-target_slashed : (text : List ℕ) (b : Bool) → (length text == 0) ≡ b → segments_of (cond b (codes "/") text) ≡ segments_of text
+target_slashed : (text : List ℕ) (b : Bool) → (length text == 0) ≡ b
+    → segments_of (cond b (codes "/") text) ≡ segments_of text
 target_slashed text true e = root_segments ∙ sym (ap segments_of (no_bytes text e) ∙ no_segments)
 target_slashed text false e = refl
 
@@ -49,7 +76,8 @@ of_path : (uri : Uri) → segments_in (uri_path uri) ≡ segments_of (uri_data u
 of_path uri = shown (uri_data uri) (length (uri_data uri) == 0) (is_some uri.scheme) refl
 
 of_target : (scheme authority : Option (List ℕ)) (text : List ℕ) → ForNone scheme (ForSome authority (λ _. text ≡ []))
-    → segments_of (unwrap_or (option_map or_slash (cond (is_some scheme || not (is_some authority)) (Some text) None)) []) ≡ segments_of text
+    → segments_of (unwrap_or (option_map or_slash (cond (is_some scheme || not (is_some authority)) (Some text) None)) [])
+    ≡ segments_of text
 of_target (Some s) authority text alone = target_slashed text (length text == 0) refl
 of_target None None text alone = target_slashed text (length text == 0) refl
 of_target None (Some a) text alone = sym (ap segments_of (alone refl a refl))

@@ -1,5 +1,7 @@
 pub mod Target
 pub mod App
 pub mod State
+pub mod Query
+pub mod Past
 pub mod Endpoint
 pub mod Allowed

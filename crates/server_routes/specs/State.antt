@@ -16,7 +16,8 @@ use Rattle.server_routes.specs.declared.app.AppCall.TheVariants.{Events, Fleet, 
 use Rattle.server_routes.specs.declared.app.FleetView.TheVariants.{Compliance, Vehicles}
 use Rattle.server_routes.specs.declared.app.Question.TheVariants.{Whoami, Drafts}
 use Rattle.server_routes.specs.declared.state.StateCall.{StateCall}
-use Rattle.server_routes.specs.declared.state.StateCall.TheVariants.{Call as OfProtocol, Reports, AuthorAsks, OperatorAsks, OwnFleet, OperatorFleet, EachCompliance}
+use Rattle.server_routes.specs.declared.state.FleetQuestion.TheVariants.{Own, Of, EachCompliance}
+use Rattle.server_routes.specs.declared.state.StateCall.TheVariants.{Call as OfProtocol, Reports, AuthorAsks, OperatorAsks, AsksFleet}
 
 -- A call outside the protocol's, by its client. Only an operator sends reports, only the author sees drafts, and only
 -- the author asks for another's fleet; it has no vehicles of its own.
@@ -25,15 +26,15 @@ app_call Nobody found = Err Token
 app_call Author (Err code) = Err code
 app_call Author (Ok Events) = Err Role
 app_call Author (Ok (Told question)) = Ok (AuthorAsks question)
-app_call Author (Ok (Fleet Compliance)) = Ok EachCompliance
+app_call Author (Ok (Fleet Compliance)) = Ok (AsksFleet EachCompliance)
 app_call Author (Ok (Fleet Vehicles)) = Err Role
-app_call Author (Ok (FleetOf view id)) = Ok (OperatorFleet view id)
+app_call Author (Ok (FleetOf view id)) = Ok (AsksFleet (Of view id))
 app_call Author (Ok NoOperator) = Err BadId
 app_call (Operator place) (Err code) = Err code
 app_call (Operator place) (Ok Events) = Ok (Reports place)
 app_call (Operator place) (Ok (Told Drafts)) = Err Role
 app_call (Operator place) (Ok (Told question)) = Ok (OperatorAsks place question)
-app_call (Operator place) (Ok (Fleet view)) = Ok (OwnFleet place view)
+app_call (Operator place) (Ok (Fleet view)) = Ok (AsksFleet (Own place view))
 app_call (Operator place) (Ok (FleetOf view id)) = Err Role
 app_call (Operator place) (Ok NoOperator) = Err Role
 
@@ -57,6 +58,4 @@ state_cost (Ok (AuthorAsks Whoami)) length = Free
 state_cost (Ok (AuthorAsks question)) length = Shared
 state_cost (Ok (OperatorAsks place Whoami)) length = Free
 state_cost (Ok (OperatorAsks place question)) length = Shared
-state_cost (Ok (OwnFleet place view)) length = Exclusive
-state_cost (Ok (OperatorFleet view id)) length = Exclusive
-state_cost (Ok EachCompliance) length = Exclusive
+state_cost (Ok (AsksFleet question)) length = Exclusive

@@ -50,7 +50,7 @@ const COMPLIANCE: usize = 16;
 const FLEET: usize = 11;
 
 /// The index of the first question mark.
-fn query_mark(target: &[u8]) -> Option<usize>
+pub(crate) fn query_mark(target: &[u8]) -> Option<usize>
     ensures value { result ≡ position is_query_mark target.now }
     ensures within { IfSome result (λ end. end < length target.now) }
 {

@@ -9,6 +9,7 @@ ghost use Rattle.mds_request.specs.declared.request.Verb.{Verb};
 ghost use Rattle.server_state.specs.HttpRequest.{target_of};
 ghost use Rattle.server_routes.specs.Allowed.{ListsCalls, RefusesUnlisted};
 ghost use Rattle.server_routes.specs.Endpoint.{TablesAreApart};
+ghost use Rattle.server_routes.specs.Past.{PastIsOfFleets};
 
 /// No two of the tables share a path: the page's, that of the public documents, that of the calls
 /// outside the protocol's, and the table of calls.
@@ -31,4 +32,10 @@ pub fn refuses_unlisted()
 /// The path of a head's URI, by which `allow` is chosen, has the segments of its target, by which its call is found.
 pub fn paths_have_the_targets_segments()
     ensures { (uri : Uri) → segments_in (uri_path uri) ≡ segments_of (target_of uri) }
+{}
+
+/// A question about the past is asked exactly as the same question about fleets as they are now: at the path of a call
+/// outside the protocol's, by a client and a method that this is called with.
+pub fn past_is_of_fleets()
+    ensures { PastIsOfFleets }
 {}

@@ -1,6 +1,6 @@
 //! A head, and what it asks for.
 ghost use Rattle.std.specs.Prelude.{◌≡◌};
-ghost use Rattle.server_admission.specs.declared.cost.Cost.TheVariants.{Free};
+ghost use Rattle.server_admission.specs.declared.cost.Cost.TheVariants.{Exclusive, Free};
 ghost use Rattle.mds_request.specs.declared.config.Actor.TheVariants.{Nobody};
 ghost use Rattle.mds_request.specs.Configuration.{actor_of};
 ghost use Rattle.mds_request.specs.Request.{verb_of};
@@ -9,9 +9,10 @@ ghost use Rattle.server_routes.specs.declared.public_target.PublicTarget.{Public
 ghost use Rattle.http_uri.specs.Uri.{uri_path};
 ghost use Rattle.server_routes.specs.Endpoint.{AsksFile, AsksPublic, AsksState, public_at};
 ghost use Rattle.server_routes.specs.State.{state_call, state_cost};
-ghost use Rattle.server_routes.specs.declared.resolved.ResolvedHead.TheVariants.{Asset, Public, State};
+ghost use Rattle.server_routes.specs.declared.resolved.ResolvedHead.TheVariants.{Asset, Past, Public, State};
 
 use crate::app::{app_at, path_of};
+use crate::past::{ResolvedPast, past_in};
 use crate::public_target::PublicTarget;
 use crate::state::{ResolvedState, StateCall, app_call, own_call};
 use http::request::Parts;
@@ -27,7 +28,9 @@ pub enum ResolvedHead<K: HallName> {
     Asset(Parts, File),
     /// A public document (MDS 2.0 Policy and Geography).
     Public(Parts, PublicTarget),
-    /// Anything else, which is asked of the city's state.
+    /// A moment of the past of operators' fleets.
+    Past(ResolvedPast<K>),
+    /// Anything else, which is asked of the city's state as it is now.
     State(ResolvedState<K>),
 }
 
@@ -62,11 +65,13 @@ fn state_of<K: HallName>(hall: &Hall<K>, parts: &Parts) -> (Actor, Result<StateC
 }
 
 /// Resolves a head: the first table that has its path has the request. The client is looked up only
-/// where the city's state is asked.
+/// where the city's state or its past is asked: its past where the call is a question about fleets and the target's
+/// query has a moment.
 pub fn resolve<K: HallName>(hall: &Hall<K>, is_public: bool, parts: Parts) -> ResolvedHead<K>
     ensures { elim result [
       | Asset own file ↦ (own ≡ parts) × AsksFile parts file
       | Public own asked ↦ (own ≡ parts) × AsksPublic is_public parts asked
+      | Past head ↦ (head.parts ≡ parts) × AsksState is_public parts
       | State head ↦ (head.parts ≡ parts) × AsksState is_public parts
     ] }
 {
@@ -78,7 +83,10 @@ pub fn resolve<K: HallName>(hall: &Hall<K>, is_public: bool, parts: Parts) -> Re
         return ResolvedHead::Public(parts, asked);
     }
     let (actor, call) = state_of(hall, &parts);
-    ResolvedHead::State(ResolvedState::new(parts, actor, call))
+    match past_in(&call, target(&parts.uri)) {
+        Some(question) => ResolvedHead::Past(ResolvedPast::new(parts, actor, question)),
+        None => ResolvedHead::State(ResolvedState::new(parts, actor, call)),
+    }
 }
 
 impl<K: HallName> ResolvedHead<K> {
@@ -88,25 +96,30 @@ impl<K: HallName> ResolvedHead<K> {
         ensures { elim self.now [
           | Asset parts file ↦ result ≡ Nobody
           | Public parts asked ↦ result ≡ Nobody
+          | Past head ↦ result ≡ head.actor
           | State head ↦ result ≡ head.actor
         ] }
     {
         match self {
             ResolvedHead::Asset(..) | ResolvedHead::Public(..) => Actor::Nobody,
+            ResolvedHead::Past(head) => head.actor(),
             ResolvedHead::State(head) => head.actor(),
         }
     }
 
-    /// What the answer takes of its client's queue, where the body has so many bytes.
+    /// What the answer takes of its client's queue, where the body has so many bytes. A question about the past takes
+    /// all of it, since it may take long.
     pub fn cost(&self, length: usize) -> Cost
         ensures { elim self.now [
           | Asset parts file ↦ result ≡ Free
           | Public parts asked ↦ result ≡ Free
+          | Past head ↦ result ≡ Exclusive
           | State head ↦ result ≡ state_cost head.call length
         ] }
     {
         match self {
             ResolvedHead::Asset(..) | ResolvedHead::Public(..) => Cost::Free,
+            ResolvedHead::Past(_) => Cost::Exclusive,
             ResolvedHead::State(head) => head.cost(length),
         }
     }

@@ -3,8 +3,9 @@ ghost use Rattle.std.specs.Prelude.{◌≡◌};
 ghost use Rattle.mds_request.specs.Configuration.{actor_of};
 ghost use Rattle.mds_request.specs.Request.{verb_of};
 ghost use Rattle.server_state.specs.HttpRequest.{target_of, token_of};
+ghost use Rattle.server_routes.specs.Past.{past_in};
 ghost use Rattle.server_routes.specs.State.{app_call, own_call, state_call, state_cost};
-ghost use Rattle.std.specs.Prelude.{Ok};
+ghost use Rattle.std.specs.Prelude.{None, Ok};
 ghost use Rattle.mds_request.specs.declared.config.Actor.TheVariants.{Author, Operator};
 
 use crate::app::{AppCall, FleetView, Question};
@@ -26,16 +27,23 @@ pub enum StateCall {
     AuthorAsks(Question),
     /// A question of the operator at this index outside the protocol.
     OperatorAsks(usize, Question),
+    /// A question about fleets.
+    AsksFleet(FleetQuestion),
+}
+
+/// A question about fleets, outside the protocol.
+#[derive(Clone, Copy)]
+pub enum FleetQuestion {
     /// A view of its own fleet, of the operator at this index.
-    OwnFleet(usize, FleetView),
+    Own(usize, FleetView),
     /// A view of the fleet of the operator with this identifier, for the author.
-    OperatorFleet(FleetView, Id),
+    Of(FleetView, Id),
     /// Each operator's compliance, for the author.
     EachCompliance,
 }
 
-/// A head that asks for something of the city's state: its client, and its call or the first
-/// refusal of the table.
+/// A head that asks for something of the city's state as it is now: its client, and its call or the
+/// first refusal of the table.
 #[derive(Drop)]
 pub struct ResolvedState<K: HallName> {
     parts: Parts,
@@ -44,6 +52,7 @@ pub struct ResolvedState<K: HallName> {
     of: PhantomData<K>,
     ghost asks: { actor ≡ actor_of K.configuration (token_of parts.headers) },
     ghost calls: { call ≡ state_call actor (verb_of parts.method) (target_of parts.uri) },
+    ghost present: { past_in call (target_of parts.uri) ≡ None },
 }
 
 /// A call of the author outside the protocol's. It sends no reports, and has no vehicles of its own.
@@ -57,8 +66,10 @@ fn author_call(found: &AppCall) -> Result<StateCall, Code>
     match found {
         AppCall::Events | AppCall::Fleet(FleetView::Vehicles) => Err(Code::Role),
         AppCall::Told(question) => Ok(StateCall::AuthorAsks(*question)),
-        AppCall::Fleet(FleetView::Compliance) => Ok(StateCall::EachCompliance),
-        AppCall::FleetOf(view, id) => Ok(StateCall::OperatorFleet(*view, *id)),
+        AppCall::Fleet(FleetView::Compliance) => {
+            Ok(StateCall::AsksFleet(FleetQuestion::EachCompliance))
+        }
+        AppCall::FleetOf(view, id) => Ok(StateCall::AsksFleet(FleetQuestion::Of(*view, *id))),
         AppCall::NoOperator => Err(Code::BadId),
     }
 }
@@ -78,7 +89,7 @@ fn operator_call(place: usize, found: AppCall) -> Result<StateCall, Code>
             Err(Code::Role)
         }
         AppCall::Told(question) => Ok(StateCall::OperatorAsks(place, question)),
-        AppCall::Fleet(view) => Ok(StateCall::OwnFleet(place, view)),
+        AppCall::Fleet(view) => Ok(StateCall::AsksFleet(FleetQuestion::Own(place, view))),
     }
 }
 
@@ -117,17 +128,17 @@ fn cost(call: &Result<StateCall, Code>, length: usize) -> Cost
         | Ok(StateCall::OperatorAsks(_, Question::Whoami)) => Cost::Free,
         Ok(StateCall::Call(call)) => cost_of(call, length),
         Ok(StateCall::Reports(_)) => Cost::Exclusive,
-        Ok(StateCall::OwnFleet(..) | StateCall::OperatorFleet(..)) => Cost::Exclusive,
-        Ok(StateCall::EachCompliance) => Cost::Exclusive,
+        Ok(StateCall::AsksFleet(_)) => Cost::Exclusive,
         Ok(StateCall::AuthorAsks(_)) | Ok(StateCall::OperatorAsks(_, _)) => Cost::Shared,
     }
 }
 
 impl<K: HallName> ResolvedState<K> {
-    /// A head with its client and its call, or its refusal.
+    /// A head with its client and its call, or its refusal. It asks for no moment of the past.
     pub(crate) fn new(parts: Parts, actor: Actor, call: Result<StateCall, Code>) -> ResolvedState<K>
         requires asks { actor ≡ actor_of K.configuration (token_of parts.headers) }
         requires calls { call ≡ state_call actor (verb_of parts.method) (target_of parts.uri) }
+        requires present { past_in call (target_of parts.uri) ≡ None }
         ensures { result.parts ≡ parts }
     {
         ResolvedState {

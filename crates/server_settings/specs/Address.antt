@@ -1,5 +1,29 @@
 -- Addresses of map tiles, and their origins.
-use Rattle.std.specs.Prelude.{ℕ, zero, suc, ◌-◌, ◌==◌, ◌&&◌, ◌||◌, not, nat_le, Bool, true, false, if◌then◌else◌, List, [], ◌∷◌, length, take, drop, bytes_eq, codes, Option, Some, None, option_and_then, is_some}
+use Rattle.std.specs.Prelude.{
+  ℕ,
+  suc,
+  ◌-◌,
+  ◌==◌,
+  ◌&&◌,
+  ◌||◌,
+  not,
+  nat_le,
+  Bool,
+  false,
+  if◌then◌else◌,
+  List,
+  [],
+  ◌∷◌,
+  length,
+  take,
+  drop,
+  bytes_eq,
+  codes,
+  Option,
+  Some,
+  None,
+  option_and_then,
+}
 use Rattle.std.specs.Char.{is_ascii_digit, is_ascii_alphanumeric}
 use Rattle.std.specs.List.{list_all, prefix_len}
 
@@ -14,7 +38,8 @@ behind word text = if begins_with word text then Some (drop (length word) text) 
 -- scheme (RFC 9110, section 4.2)
 abbrev pub behind_scheme : List ℕ → Option (List ℕ)
 behind_scheme address =
-    if begins_with (codes "https://") address then behind (codes "https://") address else behind (codes "http://") address
+    if begins_with (codes "https://") address then behind (codes "https://") address
+    else behind (codes "http://") address
 
 -- a letter, a digit, `-` or `.`
 abbrev pub is_host_byte : ℕ → Bool

@@ -1,5 +1,23 @@
 -- What is wrong with the value of `page`.
-use Rattle.std.specs.Prelude.{ℕ, List, Bool, true, false, not, ◌&&◌, codes, if◌then◌else◌, Option, Some, None, is_some, option_and_then, Result, Ok, Err}
+use Rattle.std.specs.Prelude.{
+  ℕ,
+  List,
+  Bool,
+  true,
+  false,
+  not,
+  ◌&&◌,
+  codes,
+  if◌then◌else◌,
+  Option,
+  Some,
+  None,
+  is_some,
+  option_and_then,
+  Result,
+  Ok,
+  Err,
+}
 use Rattle.mds_text.specs.Fault.{Fault}
 use Rattle.mds_text.specs.Fields.{find_member, present}
 use Rattle.mds_text.specs.Reading.{read_text}
@@ -15,10 +33,15 @@ is_wrong value is_read = is_some (present value) && not is_read
 -- the first part that is wrong
 abbrev pub fault_in : Members → Option PageFault
 fault_in ms =
-    if is_wrong (find_member (codes "title") ms) (is_some (caption_in most_title (find_member (codes "title") ms))) then Some Title
-    else if is_wrong (find_member (codes "view") ms) (is_some (view_in (find_member (codes "view") ms))) then Some View
-    else if is_wrong (find_member (codes "tiles") ms) (is_some (tiles_in (find_member (codes "tiles") ms))) then Some Tiles
-    else if is_wrong (find_member (codes "attribution") ms) (is_some (caption_in most_attribution (find_member (codes "attribution") ms))) then Some Attribution
+    if is_wrong (find_member (codes "title") ms) (is_some (caption_in most_title (find_member (codes "title") ms)))
+    then Some Title
+    else if is_wrong (find_member (codes "view") ms) (is_some (view_in (find_member (codes "view") ms)))
+    then Some View
+    else if is_wrong (find_member (codes "tiles") ms) (is_some (tiles_in (find_member (codes "tiles") ms)))
+    then Some Tiles
+    else if is_wrong (find_member (codes "attribution") ms)
+    (is_some (caption_in most_attribution (find_member (codes "attribution") ms)))
+    then Some Attribution
     else None
 
 abbrev pub fault_among : Option Members → Option PageFault
@@ -48,6 +71,7 @@ page_fault configuration = fault_read (read_text configuration)
 abbrev pub fault_wording : PageFault → List ℕ
 fault_wording NoObject = codes ": no object"
 fault_wording Title = codes ".title: no text of 1 to 100 characters"
-fault_wording View = codes ".view: no object with lat from -90 to 90, lng from -180 to 180 and a whole zoom from 0 to 22"
+fault_wording View =
+    codes ".view: no object with lat from -90 to 90, lng from -180 to 180 and a whole zoom from 0 to 22"
 fault_wording Tiles = codes ".tiles: no address as https://HOST/{z}/{x}/{y}.png"
 fault_wording Attribution = codes ".attribution: no text of 1 to 200 characters"

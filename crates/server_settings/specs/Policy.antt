@@ -8,8 +8,8 @@ abbrev pub tile_source : Option (List ℕ) → List ℕ
 tile_source None = []
 tile_source (Some address) = codes " " ++ origin_of address
 
--- The page has no script and no style inside it. Pictures come from the same origin, from inside the page (`data:`), and from the
--- origin of the tiles, where there are tiles.
+-- The page has no script and no style inside it. Pictures come from the same origin, from inside the page (`data:`),
+-- and from the origin of the tiles, where there are tiles.
 abbrev pub policy_for : Option (List ℕ) → List ℕ
 policy_for tiles =
     codes "default-src 'none'; script-src 'self'; worker-src 'self'; style-src 'self'; img-src 'self' data:"

@@ -1,5 +1,29 @@
 -- What the member `page` of a configuration says of the page for people, and the text of it that the page reads.
-use Rattle.std.specs.Prelude.{ℕ, ℤ, pos, List, [], ◌∷◌, ◌++◌, Bool, false, not, ◌&&◌, ◌==◌, nat_le, length, filter, codes, if◌then◌else◌, Option, Some, None, option_map, option_and_then, option_to_list, Result, Ok, Err}
+use Rattle.std.specs.Prelude.{
+  ℕ,
+  ℤ,
+  pos,
+  List,
+  [],
+  ◌∷◌,
+  ◌++◌,
+  Bool,
+  not,
+  ◌&&◌,
+  nat_le,
+  length,
+  filter,
+  codes,
+  if◌then◌else◌,
+  Option,
+  Some,
+  None,
+  option_map,
+  option_and_then,
+  Result,
+  Ok,
+  Err,
+}
 use Rattle.mds_geometry.specs.Coordinate.{coordinate_of, most_latitude, most_longitude}
 use Rattle.mds_text.specs.Fault.{Fault}
 use Rattle.mds_text.specs.Fields.{find_member}
@@ -75,7 +99,12 @@ pub record Given : Type 0 where
 
 abbrev pub given : Settings → Given
 given s =
-    record { title = option_map (λ t. t.now) s.title; view = s.view; tiles = option_map (λ t. t.now) s.tiles; attribution = option_map (λ t. t.now) s.attribution }
+    record {
+      title = option_map (λ t. t.now) s.title;
+      view = s.view;
+      tiles = option_map (λ t. t.now) s.tiles;
+      attribution = option_map (λ t. t.now) s.attribution;
+    }
 
 -- the members of the value of `page`; a part that is none of its kind counts as absent
 abbrev pub given_in : Members → Given
@@ -101,6 +130,13 @@ page_read (Err fault) = None
 abbrev pub settings_of : List ℕ → Option Given
 settings_of configuration = page_read (read_text configuration)
 
+-- the page's title, where a configuration gives it one: the city's
+abbrev pub title_of : Option Given → Option (List ℕ)
+title_of page = option_and_then (λ g. g.title) page
+
+abbrev pub page_title : List ℕ → Option (List ℕ)
+page_title configuration = title_of (settings_of configuration)
+
 -- a member with this name, where there is a value
 abbrev pub named : List ℕ → Option Json → List (List ℕ × Json)
 named name None = []
@@ -108,7 +144,8 @@ named name (Some value) = (name, value) ∷ []
 
 abbrev pub view_json : FirstView → Json
 view_json v =
-    object (members_of ((codes "lat", degrees v.lat) ∷ (codes "lng", degrees v.lng) ∷ (codes "zoom", int (pos v.zoom)) ∷ []))
+    object (members_of
+    ((codes "lat", degrees v.lat) ∷ (codes "lng", degrees v.lng) ∷ (codes "zoom", int (pos v.zoom)) ∷ []))
 
 -- the document that the page reads
 abbrev pub given_members : Given → List (List ℕ × Json)

@@ -2,7 +2,21 @@
 ghost use Rattle.std.specs.Prelude.{◌≡◌, ◌≤◌, length, option_copied};
 ghost use Rattle.std.specs.List.{list_all, prefix_len};
 ghost use Rattle.std.specs.Char.{is_ascii_digit};
-ghost use Rattle.server_settings.specs.Address.{before, begins_with, behind, behind_digits, behind_host, behind_origin, behind_port, behind_scheme, is_address, is_host_byte, is_path, is_path_byte, origin_of, times};
+ghost use Rattle.server_settings.specs.Address.{
+  begins_with,
+  behind,
+  behind_digits,
+  behind_host,
+  behind_origin,
+  behind_port,
+  behind_scheme,
+  is_address,
+  is_host_byte,
+  is_path,
+  is_path_byte,
+  origin_of,
+  times,
+};
 
 /// The most bytes of an address.
 const MOST_ADDRESS: usize = 256;

@@ -29,7 +29,8 @@ fn add_text(
     name: &str,
     value: Option<&str>,
 ) -> Result<(), AllocError>
-    ensures { OnOk result (map member_view members.new.items ≡ map member_view members.old.items ++ named name.now (option_map (λ s. text s.now) value.entry)) }
+    ensures { OnOk result (map member_view members.new.items
+        ≡ map member_view members.old.items ++ named name.now (option_map (λ s. text s.now) value.entry)) }
 {
     match value {
         Some(value) => add_member(members, name, text_tree(alloc, value)?),
@@ -43,7 +44,8 @@ fn add_view(
     alloc: Global,
     first: Option<FirstView>,
 ) -> Result<(), AllocError>
-    ensures { OnOk result (map member_view members.new.items ≡ map member_view members.old.items ++ named (codes "view") (option_map view_json first)) }
+    ensures { OnOk result (map member_view members.new.items
+        ≡ map member_view members.old.items ++ named (codes "view") (option_map view_json first)) }
 {
     match first {
         Some(first) => add_member(members, "view", view_tree(alloc, first)?),

@@ -1,9 +1,16 @@
 //! What is wrong with the member `page` of a configuration.
 ghost use Rattle.std.specs.Prelude.{◌≡◌, IfOk, is_some, map, option_map};
-ghost use Rattle.mds_text.specs.Fields.{present};
 ghost use Rattle.mds_text.specs.Tree.{members_of};
 ghost use Rattle.mds_text.specs.View.{member_view, view};
-ghost use Rattle.server_settings.specs.Faults.{fault_at, fault_in, fault_of, fault_wording, is_null, is_wrong, page_fault};
+ghost use Rattle.server_settings.specs.Faults.{
+  fault_at,
+  fault_in,
+  fault_of,
+  fault_wording,
+  is_null,
+  is_wrong,
+  page_fault,
+};
 
 use crate::first_view::view_in;
 use crate::settings::{
@@ -104,8 +111,8 @@ fn fault_at(configuration: &Tree) -> Option<PageFault>
     fault_of(find_member(members_in(configuration)?, "page")?)
 }
 
-/// What is wrong with the member `page` of a configuration: the first part that is there, where null counts as absent, and
-/// isn't what it has to be. Nothing is where there is no such member, nor in a text that is no JSON.
+/// What is wrong with the member `page` of a configuration: the first part that is there, where null counts as absent,
+/// and isn't what it has to be. Nothing is where there is no such member, nor in a text that is no JSON.
 ///
 /// # Errors
 ///

@@ -7,9 +7,9 @@ mod fault;
 mod first_view;
 mod policy;
 mod settings;
-#[cfg(test)]
-mod tests;
+mod title;
 
 pub use document::settings_text;
 pub use fault::{PageFault, page_fault};
 pub use policy::content_policy;
+pub use title::page_title;

@@ -1,9 +1,19 @@
 //! What the member `page` of a configuration says.
-ghost use Rattle.std.specs.Prelude.{◌≡◌, ◌≤◌, length, filter, map, option_map};
+ghost use Rattle.std.specs.Prelude.{◌≡◌, length, filter, map, option_map};
 ghost use Rattle.mds_text.specs.Fields.{find_member};
 ghost use Rattle.mds_text.specs.Tree.{members_of};
 ghost use Rattle.mds_text.specs.View.{member_view, view};
-ghost use Rattle.server_settings.specs.Settings.{begins_char, caption_in, given, given_in, is_caption, members_in, page_in, page_of, tiles_in};
+ghost use Rattle.server_settings.specs.Settings.{
+  begins_char,
+  caption_in,
+  given,
+  given_in,
+  is_caption,
+  members_in,
+  page_in,
+  page_of,
+  tiles_in,
+};
 
 use crate::address::is_address;
 use crate::first_view::{FirstView, view_in};

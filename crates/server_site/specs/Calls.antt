@@ -11,7 +11,7 @@ use Rattle.mds_request.specs.declared.code.Code.{Code}
 use Rattle.mds_request.specs.declared.code.Code.TheVariants.{Method}
 use Rattle.journal_laws.specs.Persisted.{may_change}
 use Rattle.server_routes.specs.declared.state.StateCall.{StateCall}
-use Rattle.server_routes.specs.declared.state.StateCall.TheVariants.{Call as OfProtocol, Reports, AuthorAsks, OperatorAsks, OwnFleet, OperatorFleet, EachCompliance}
+use Rattle.server_routes.specs.declared.state.StateCall.TheVariants.{Call as OfProtocol, Reports, AuthorAsks, OperatorAsks, AsksFleet}
 
 -- a call of the protocol: the author's call to publish, what may change the persisted state, or
 -- what reads
@@ -26,9 +26,7 @@ kind_of (Ok (OfProtocol call)) = kind_of_own call
 kind_of (Ok (Reports place)) = Change
 kind_of (Ok (AuthorAsks question)) = Read
 kind_of (Ok (OperatorAsks place question)) = Read
-kind_of (Ok (OwnFleet place view)) = Read
-kind_of (Ok (OperatorFleet view id)) = Read
-kind_of (Ok EachCompliance) = Read
+kind_of (Ok (AsksFleet question)) = Read
 
 -- the methods of the path, where the call is refused by its method (RFC 9110, section 10.2.1)
 abbrev pub methods_for : Result StateCall Code → List ℕ → Option (List ℕ)

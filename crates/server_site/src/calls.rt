@@ -29,8 +29,7 @@ pub fn kind_of(call: &Result<StateCall, Code>) -> CallKind
         Ok(StateCall::Call(call)) => kind_of_own(call),
         Ok(StateCall::Reports(_)) => CallKind::Change,
         Ok(StateCall::AuthorAsks(_) | StateCall::OperatorAsks(..)) | Err(_) => CallKind::Read,
-        Ok(StateCall::OwnFleet(..) | StateCall::OperatorFleet(..)) => CallKind::Read,
-        Ok(StateCall::EachCompliance) => CallKind::Read,
+        Ok(StateCall::AsksFleet(_)) => CallKind::Read,
     }
 }
 

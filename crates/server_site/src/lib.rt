@@ -1,4 +1,4 @@
-//! The service of `ruffletuff`: the page, the public documents or the city, by what a head was
+//! The service of `ruffletuff`: the page, the public documents, the city or its past, by what a head was
 //! resolved to.
 #![tactic(auto)]
 

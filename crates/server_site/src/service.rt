@@ -1,17 +1,18 @@
 //! How a site answers requests.
-ghost use Rattle.std.specs.Prelude.{◌≡◌, ⊤, ℕ, Option, is_some, option_map, IfOk, IfSome, IsSome, MatchResult};
+ghost use Rattle.std.specs.Prelude.{◌≡◌, ⊤, ℕ, None, Option, is_some, option_map, IfOk, IfSome, IsSome, MatchResult};
 ghost use Rattle.futures.specs.declared.future.either.Either.TheVariants.{Left, Right};
 ghost use Rattle.http_uri.specs.Uri.{uri_path};
 ghost use Rattle.server_app.specs.OperatorNames.{badges_view};
 ghost use Rattle.server_durable.specs.DurableResponse.{CityResponds};
-ghost use Rattle.server_admission.specs.declared.cost.Cost.TheVariants.{Free};
+ghost use Rattle.server_admission.specs.declared.cost.Cost.TheVariants.{Exclusive, Free};
 ghost use Rattle.server_page.specs.Response.{Responds};
+ghost use Rattle.server_past.specs.Response.{PastResponds};
 ghost use Rattle.server_public.specs.CachedDocuments.{IsTold};
 ghost use Rattle.server_responses.specs.Methods.{text_of as methods_text};
 ghost use Rattle.mds_request.specs.declared.config.Actor.TheVariants.{Nobody};
 ghost use Rattle.server_routes.specs.Endpoint.{AsksFile, AsksPublic, AsksState};
 ghost use Rattle.server_routes.specs.State.{state_cost};
-ghost use Rattle.server_routes.specs.declared.resolved.ResolvedHead.TheVariants.{Asset, Public, State};
+ghost use Rattle.server_routes.specs.declared.resolved.ResolvedHead.TheVariants.{Asset, Past, Public, State};
 ghost use Rattle.server_site.specs.Calls.{methods_for};
 
 use crate::calls::{hint_for, kind_of};
@@ -23,13 +24,14 @@ use journal_file::Log;
 use mds_catalog::Catalogue;
 use mds_request::Actor;
 use mds_verdict::Evaluator;
-use server_admission::{Arrived, Cost};
-use server_control::{MeteredReply, RequestTimer};
+use server_admission::{Arrived, Cost, Moments};
+use server_control::{CallKind, MeteredReply, RequestTimer};
 use server_durable::{PendingResponse, TurnRuntime};
 use server_http::{Crowded, RequestService};
 use server_page::File;
-use server_responses::{HintedReply, HttpResult};
-use server_routes::{PublicTarget, ResolvedHead, ResolvedState};
+use server_past::PastJournals;
+use server_responses::{HintedReply, HttpResult, RefusalHint};
+use server_routes::{PublicTarget, ResolvedHead, ResolvedPast, ResolvedState};
 use server_state::HallName;
 use std::alloc::AllocError;
 use std::sync::Wait;
@@ -45,7 +47,7 @@ pub type CityReply<'a, N, L, S, R> = HintedReply<MeteredReply<'a, PendingRespons
 /// A response of a site.
 pub type SiteReply<'a, N, L, S, R> = Either<ReadyReply, CityReply<'a, N, L, S, R>>;
 
-impl<'a, K: HallName, N: LogName, L: Log, S: Space, R: Wait, E> Site<'a, K, N, L, S, R, E> {
+impl<'a, K: HallName, N: LogName, L: Log, S: Space, R: Wait, E, P> Site<'a, K, N, L, S, R, E, P> {
     /// The response to a request for a file of the page.
     fn respond_with_file(&self, parts: &Parts, file: File) -> HttpResult
         ensures { IfOk result (Responds self.now.page.settings parts.now.method parts.now.headers file) }
@@ -66,7 +68,7 @@ impl<'a, K: HallName, N: LogName, L: Log, S: Space, R: Wait, E> Site<'a, K, N, L
     }
 }
 
-impl<'a, K, N, L, S, R, E> Site<'a, K, N, L, S, R, E>
+impl<'a, K, N, L, S, R, E, P> Site<'a, K, N, L, S, R, E, P>
 where
     K: HallName,
     N: LogName,
@@ -74,6 +76,7 @@ where
     S: Space,
     R: TurnRuntime + Clock,
     E: Evaluator<Catalogue> + Drop,
+    P: PastJournals + Drop,
 {
     /// The pending response of the city.
     ///
@@ -97,9 +100,33 @@ where
         let guide = hint_for(&call, head.parts().uri.path());
         Ok(HintedReply::new(MeteredReply::new(leaving, ticket), guide))
     }
+
+    /// The pending response to a question about the past. It is counted as one that reads.
+    ///
+    /// # Errors
+    ///
+    /// As `PastFleets::answer`.
+    fn answer_by_past(
+        &self,
+        head: &ResolvedPast<K>,
+        body: &Arrived,
+    ) -> Result<CityReply<'a, N, L, S, R>, Crowded>
+        ensures names { IfOk result (λ reply. reply.guide.methods ≡ None) }
+        ensures responds { IfOk result (λ reply. IfSome reply.reply.reply.told (λ s. (at : Option ℕ)
+            × PastResponds K.configuration (badges_view self.now.state.city.badges) (P.tells self.now.past.journals)
+            head.now.parts body.now at s.reply)) }
+    {
+        let ticket = RequestTimer::new(self.counters, self.state.rt, CallKind::Read);
+        let at = self.state.moments.now();
+        let leaving = self
+            .past
+            .answer(self.state.alloc, &self.state.city, at, head, body)?;
+        let guide = RefusalHint::without_methods();
+        Ok(HintedReply::new(MeteredReply::new(leaving, ticket), guide))
+    }
 }
 
-impl<'a, K, N, L, S, R, E> RequestService for Site<'a, K, N, L, S, R, E>
+impl<'a, K, N, L, S, R, E, P> RequestService for Site<'a, K, N, L, S, R, E, P>
 where
     K: HallName,
     N: LogName,
@@ -107,6 +134,7 @@ where
     S: Space,
     R: TurnRuntime + Clock,
     E: Evaluator<Catalogue> + Drop,
+    P: PastJournals + Drop,
 {
     type Head = ResolvedHead<K>;
 
@@ -119,6 +147,7 @@ where
         ensures { elim result [
           | Asset own file ↦ (own ≡ parts) × AsksFile parts file
           | Public own asked ↦ (own ≡ parts) × AsksPublic (is_some self.now.window) parts asked
+          | Past head ↦ (head.parts ≡ parts) × AsksState (is_some self.now.window) parts
           | State head ↦ (head.parts ≡ parts) × AsksState (is_some self.now.window) parts
         ] }
     {
@@ -129,6 +158,7 @@ where
         ensures { elim head.now [
           | Asset parts file ↦ result ≡ Nobody
           | Public parts asked ↦ result ≡ Nobody
+          | Past head ↦ result ≡ head.actor
           | State head ↦ result ≡ head.actor
         ] }
     {
@@ -139,6 +169,7 @@ where
         ensures { elim head.now [
           | Asset parts file ↦ result ≡ Free
           | Public parts asked ↦ result ≡ Free
+          | Past head ↦ result ≡ Exclusive
           | State head ↦ result ≡ state_cost head.call length
         ] }
     {
@@ -166,6 +197,13 @@ where
             | Left told ↦ IfSome told.0 (λ r. IfOk r (IsTold K.configuration asked parts))
             | Right reply ↦ ⊥
           ]) (λ _. ⊥)
+          | Past head ↦ IfOk result (elim [
+            | Left told ↦ ⊥
+            | Right reply ↦ (reply.guide.methods ≡ None)
+                × IfSome reply.reply.reply.told (λ s. (at : Option ℕ)
+                × PastResponds K.configuration (badges_view self.now.state.city.badges) (P.tells self.now.past.journals)
+                head.parts body.now at s.reply)
+          ])
           | State head ↦ IfOk result (elim [
             | Left told ↦ ⊥
             | Right reply ↦ (option_map methods_text reply.guide.methods ≡ methods_for head.call (uri_path head.parts.uri))
@@ -181,6 +219,7 @@ where
             ResolvedHead::Public(parts, asked) => {
                 Ok(Either::Left(ready(self.respond_with_public(parts, *asked))))
             }
+            ResolvedHead::Past(head) => Ok(Either::Right(self.answer_by_past(head, body)?)),
             ResolvedHead::State(head) => Ok(Either::Right(self.answer_by_city(head, body)?)),
         }
     }

@@ -1,6 +1,6 @@
 //! Tests of what the command line reads and writes: arguments, configurations, zones, moments, requests, documents,
-//! vehicles and reports. They use public items alone, and are a crate of their own, so that proving them doesn't prove
-//! the tested crates again.
+//! vehicles and reports; and of what a configuration says of the page. They use public items alone, and are a crate of
+//! their own, so that proving them doesn't prove the tested crates again.
 #![tactic(auto)]
 
 #[cfg(test)]
@@ -15,6 +15,10 @@ mod config;
 mod documents;
 #[cfg(test)]
 mod report;
+#[cfg(test)]
+mod report_rules;
+#[cfg(test)]
+mod settings;
 #[cfg(test)]
 mod timezone;
 #[cfg(test)]

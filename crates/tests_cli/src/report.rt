@@ -1,8 +1,8 @@
 //! Tests of reports: the examples of RFC 4180, and a night on which the clocks of New York are set back, worked out by
 //! hand.
 use cli_report::{
-    ReportSpan, ReportedOperator, page_start, push_page_end, push_page_operator, push_summary,
-    push_verdicts, summary_header, verdicts_header,
+    ReportHead, ReportSpan, ReportedOperator, page_start, push_page_end, push_page_operator,
+    push_summary, push_verdicts, summary_header, verdicts_header,
 };
 use journal_samples::RuleSample;
 use mds_catalog::Catalogue;
@@ -27,7 +27,7 @@ const BEFORE_NAME: &str =
     "2026-11-01T05:00:00Z,2026-11-01T01:00:00-04:00,11111111-1111-4111-8111-111111111111,";
 /// What it has behind the name.
 const BEHIND_NAME: &str =
-    ",22222222-2222-4222-8222-222222222222,,0,33333333-3333-4333-8333-333333333333,,violated,7,,\r\n";
+    ",22222222-2222-4222-8222-222222222222,,0,33333333-3333-4333-8333-333333333333,,violated,7,,,\r\n";
 
 /// A sample of the rule, so many hours after midnight.
 fn sample(hour: i64, status: Status, measure: u64) -> Option<RuleSample> {
@@ -71,16 +71,27 @@ fn samples(alloc: Global) -> Result<Vec<RuleSample>, AllocError> {
 }
 
 /// Each hour from one moment to another.
-fn hours(from: Moment, to: Moment) -> ReportSpan {
+fn hours(first: Moment, last: Moment) -> ReportSpan {
     ReportSpan {
-        from,
-        to,
+        first,
+        last,
         every: 3_600_000,
     }
 }
 
+/// The head of a report of a city without a title.
+fn head(span: ReportSpan) -> ReportHead<'static> {
+    ReportHead {
+        city: b"",
+        zone: b"America/New_York",
+        made: None,
+        program: b"ruffletuff",
+        span,
+    }
+}
+
 /// Whether a text has this part.
-fn has_part(text: &[u8], part: &str) -> bool {
+pub(crate) fn has_part(text: &[u8], part: &str) -> bool {
     for start in 0..text.len() {
         if text[start..].starts_with(part.as_bytes()) {
             return true;
@@ -89,23 +100,70 @@ fn has_part(text: &[u8], part: &str) -> bool {
     false
 }
 
+/// An operator with this name and these samples.
+pub(crate) fn operator<'a>(
+    name: &'a [u8],
+    samples: &'a [RuleSample],
+    catalogue: &'a Catalogue,
+) -> Option<ReportedOperator<'a>> {
+    Some(ReportedOperator {
+        id: Id::read(OPERATOR)?,
+        name,
+        samples,
+        catalogue,
+    })
+}
+
 /// The row of a sample of an operator with this name; nothing where there is no such zone.
 fn verdict_row(alloc: Global, name: &[u8]) -> Result<Vec<u8>, AllocError> {
     let mut row = Vec::new(alloc);
-    let (Ok(zone), Some(id)) = (Zone::read(NEW_YORK), Id::read(OPERATOR)) else {
-        return Ok(row);
-    };
     let catalogue = Catalogue::with_room(alloc)?;
     let mut samples = Vec::new(alloc);
     push_sample(&mut samples, 1, Status::Violated, 7)?;
-    let operator = ReportedOperator {
-        id,
-        name,
-        samples: &samples,
-        catalogue: &catalogue,
-    };
-    push_verdicts(alloc, &mut row, &zone, &operator)?;
+    if let (Ok(zone), Some(operator)) = (
+        Zone::read(NEW_YORK),
+        operator(name, &samples, &catalogue),
+    ) {
+        push_verdicts(alloc, &mut row, &zone, &operator)?;
+    }
     Ok(row)
+}
+
+/// The rows of the night of an operator, in short; nothing where there is no such zone.
+fn summary_rows(alloc: Global) -> Result<Vec<u8>, AllocError> {
+    let mut rows = Vec::new(alloc);
+    let catalogue = Catalogue::with_room(alloc)?;
+    let samples = samples(alloc)?;
+    if let (Ok(zone), Some(operator)) = (
+        Zone::read(NEW_YORK),
+        operator(b"Scoot", &samples, &catalogue),
+    ) {
+        push_summary(alloc, &mut rows, &zone, &operator)?;
+    }
+    Ok(rows)
+}
+
+/// Appends the section of the night of an operator whose name is markup; nothing where there is no such operator.
+fn push_section(out: &mut Vec<u8>, zone: &Zone, span: ReportSpan) -> Result<(), AllocError> {
+    let alloc = *out.allocator();
+    let catalogue = Catalogue::with_room(alloc)?;
+    let samples = samples(alloc)?;
+    if let Some(operator) = operator(b"<script>", &samples, &catalogue) {
+        push_page_operator(alloc, out, zone, span, &operator)?;
+    }
+    Ok(())
+}
+
+/// The page of the night; nothing where there is no such zone.
+fn page(alloc: Global, first: Moment, last: Moment) -> Result<Vec<u8>, AllocError> {
+    let Ok(zone) = Zone::read(NEW_YORK) else {
+        return Ok(Vec::new(alloc));
+    };
+    let head = head(hours(first, last));
+    let mut out = page_start(alloc, &zone, &head)?;
+    push_section(&mut out, &zone, hours(first, last))?;
+    push_page_end(&mut out)?;
+    Ok(out)
 }
 
 /// Appends the cell that an operator's name has in the row of a sample: what stands between the cells before it and
@@ -146,25 +204,11 @@ fn formulas_are_texts(rt: HostRuntime) -> Result<(), AllocError> {
 #[test]
 fn a_night_of_verdicts(rt: HostRuntime) -> Result<(), AllocError> {
     let alloc = rt.alloc();
-    let Ok(zone) = Zone::read(NEW_YORK) else {
-        assert!(rt; false);
-        return Ok(());
-    };
-    let catalogue = Catalogue::with_room(alloc)?;
-    let mut samples = Vec::new(alloc);
-    push_sample(&mut samples, 1, Status::Violated, 7)?;
-    let operator = ReportedOperator {
-        id: Id::read(OPERATOR).expect(&rt, "an identifier"),
-        name: b"=cmd, \"x\"",
-        samples: &samples,
-        catalogue: &catalogue,
-    };
-    let mut out = verdicts_header(alloc)?;
-    assert!(rt; has_part(&out, ",status,measure,minimum,maximum\r\n"));
-    out.clear();
-    push_verdicts(alloc, &mut out, &zone, &operator)?;
+    let header = verdicts_header(alloc)?;
+    assert!(rt; has_part(&header, ",status,measure,minimum,maximum,units\r\n"));
+    let out = verdict_row(alloc, b"=cmd, \"x\"")?;
     let row = format!(in alloc;
-        "2026-11-01T05:00:00Z,2026-11-01T01:00:00-04:00,{OPERATOR},\"'=cmd, \"\"x\"\"\",{RULE}violated,7,,\r\n"
+        "2026-11-01T05:00:00Z,2026-11-01T01:00:00-04:00,{OPERATOR},\"'=cmd, \"\"x\"\"\",{RULE}violated,7,,,\r\n"
     )?;
     assert!(rt; out.as_slice() == row.as_bytes());
     Ok(())
@@ -173,31 +217,18 @@ fn a_night_of_verdicts(rt: HostRuntime) -> Result<(), AllocError> {
 #[test]
 fn a_night_in_short(rt: HostRuntime) -> Result<(), AllocError> {
     let alloc = rt.alloc();
-    let Ok(zone) = Zone::read(NEW_YORK) else {
-        assert!(rt; false);
-        return Ok(());
-    };
-    let catalogue = Catalogue::with_room(alloc)?;
-    let samples = samples(alloc)?;
-    let operator = ReportedOperator {
-        id: Id::read(OPERATOR).expect(&rt, "an identifier"),
-        name: b"Scoot",
-        samples: &samples,
-        catalogue: &catalogue,
-    };
-    let mut out = summary_header(alloc)?;
-    assert!(rt; has_part(&out, ",day,samples,violated,longest,"));
-    out.clear();
-    push_summary(alloc, &mut out, &zone, &operator)?;
+    let header = summary_header(alloc)?;
+    assert!(rt; has_part(&header, ",day,samples,violated,longest,"));
+    let out = summary_rows(alloc)?;
     let evening = "2026-10-31T23:00:00-04:00";
     let one = "2026-11-01T01:00:00-04:00";
     let again = "2026-11-01T01:00:00-05:00";
     let three = "2026-11-01T03:00:00-05:00";
     let first = format!(in alloc;
-        "{OPERATOR},Scoot,{RULE}2026-10-31,1,1,1,{evening},{evening},{evening},{evening},5\r\n"
+        "{OPERATOR},Scoot,{RULE}2026-10-31,1,1,1,{evening},{evening},{evening},{evening},5,5\r\n"
     )?;
     let second = format!(in alloc;
-        "{OPERATOR},Scoot,{RULE}2026-11-01,5,3,2,{one},{again},{one},{three},9\r\n"
+        "{OPERATOR},Scoot,{RULE}2026-11-01,5,3,2,{one},{again},{one},{three},9,2\r\n"
     )?;
     let mut rows = first;
     rows.push_str(second.as_str())?;
@@ -207,30 +238,23 @@ fn a_night_in_short(rt: HostRuntime) -> Result<(), AllocError> {
 
 #[test]
 fn a_night_on_the_page(rt: HostRuntime) -> Result<(), AllocError> {
-    let alloc = rt.alloc();
-    let Ok(zone) = Zone::read(NEW_YORK) else {
-        assert!(rt; false);
-        return Ok(());
-    };
-    let catalogue = Catalogue::with_room(alloc)?;
-    let samples = samples(alloc)?;
-    let from = Moment::new(1_793_502_000_000).expect(&rt, "a moment");
-    let to = Moment::new(1_793_520_000_000).expect(&rt, "a moment");
-    let operator = ReportedOperator {
-        id: Id::read(OPERATOR).expect(&rt, "an identifier"),
-        name: b"<script>",
-        samples: &samples,
-        catalogue: &catalogue,
-    };
-    let mut out = page_start(alloc, &zone, hours(from, to))?;
-    push_page_operator(alloc, &mut out, &zone, hours(from, to), &operator)?;
-    push_page_end(&mut out)?;
+    let first = Moment::new(1_793_502_000_000).expect(&rt, "a moment");
+    let last = Moment::new(1_793_520_000_000).expect(&rt, "a moment");
+    let out = page(rt.alloc(), first, last)?;
     assert!(rt;
         has_part(
             &out,
-            "2026-10-31T23:00:00-04:00 to before 2026-11-01T03:00:00-05:00, every 60 minutes."
+            "<th>First sample</th><td>2026-10-31T23:00:00-04:00</td>"
         )
     );
+    assert!(rt;
+        has_part(
+            &out,
+            "<th>Last sample</th><td>2026-11-01T03:00:00-05:00</td>"
+        )
+    );
+    assert!(rt; has_part(&out, "<th>Sampled every</th><td>60 minutes</td>"));
+    assert!(rt; !has_part(&out, "<th>City</th>"));
     assert!(rt; has_part(&out, "<h2>&lt;script&gt; <small>"));
     assert!(rt; !has_part(&out, "<script"));
     // Two samples at 01:00, as that hour is shown twice: by the clock from 01:00 to 02:00.

@@ -11,7 +11,7 @@ use std::process::Abort;
 
 /// An archive in memory, on which so many calls succeed before each one fails.
 #[derive(Drop)]
-struct MemoryArchive {
+pub(crate) struct MemoryArchive {
     alloc: Global,
     names: Vec<String>,
     files: Vec<Vec<u8>>,
@@ -20,7 +20,7 @@ struct MemoryArchive {
 
 impl MemoryArchive {
     /// An empty archive.
-    fn new(alloc: Global, calls_left: u32) -> MemoryArchive {
+    pub(crate) fn new(alloc: Global, calls_left: u32) -> MemoryArchive {
         MemoryArchive {
             alloc,
             names: Vec::new(alloc),
@@ -30,7 +30,7 @@ impl MemoryArchive {
     }
 
     /// The bytes of the file of this name.
-    fn file(&self, name: &str) -> Option<&[u8]> {
+    pub(crate) fn file(&self, name: &str) -> Option<&[u8]> {
         for place in 0..self.names.len() {
             if self.names[place].as_str() == name {
                 return Some(self.files.get(place)?.as_slice());
@@ -80,7 +80,7 @@ impl Archive for MemoryArchive {
 }
 
 /// The bytes of a journal of these requests; `None` where memory ran out.
-fn journal_bytes(alloc: Global, asked: &[TimedExchange<'_>]) -> Option<Vec<u8>> {
+pub(crate) fn journal_bytes(alloc: Global, asked: &[TimedExchange<'_>]) -> Option<Vec<u8>> {
     let storage = MemoryStorage {
         bytes: Vec::new(alloc),
         calls_left: 5,
@@ -91,16 +91,26 @@ fn journal_bytes(alloc: Global, asked: &[TimedExchange<'_>]) -> Option<Vec<u8>> 
     Some(log.into_storage().bytes)
 }
 
-/// Archives bytes, which succeeds.
-fn archive(rt: &impl Abort, kept: &mut MemoryArchive, bytes: &[u8]) {
+/// Archives bytes, which succeeds, and checks that they have this name then, or none.
+fn archive(rt: &impl Abort, kept: &mut MemoryArchive, bytes: &[u8], name: Option<&str>) {
     let alloc = kept.alloc;
-    assert!(rt; archive_journal(alloc, kept, bytes) == Ok(()));
+    let archived = archive_journal(alloc, kept, bytes).expect(rt, "an archived journal");
+    match (archived, name) {
+        (Some(archived), Some(name)) => assert!(rt; archived.as_str() == name),
+        (None, None) => {}
+        _ => assert!(rt; false),
+    }
 }
 
 /// Checks that bytes aren't archived, since they are no whole journal.
 fn expect_damaged(rt: &impl Abort, kept: &mut MemoryArchive, bytes: &[u8]) {
     let alloc = kept.alloc;
-    assert!(rt; archive_journal(alloc, kept, bytes) == Err(ArchiveFault::Damaged));
+    assert!(rt;
+        matches!(
+            archive_journal(alloc, kept, bytes),
+            Err(ArchiveFault::Damaged)
+        )
+    );
 }
 
 /// The span of a journal is of its first and its last entry; one without entries has none.
@@ -140,7 +150,8 @@ fn entries_lie_in_the_bytes(rt: HostRuntime) {
     }
 }
 
-/// A journal is archived once, and another of the same span beside it; the first one stays as it was.
+/// A journal is archived once, under the same name each time, and another of the same span beside it; the first one stays
+/// as it was.
 #[test]
 fn journals_are_archived_by_their_spans(rt: HostRuntime) {
     let alloc = rt.alloc();
@@ -148,8 +159,8 @@ fn journals_are_archived_by_their_spans(rt: HostRuntime) {
     let thinned = journal_bytes(alloc, COMPACTED).expect(&rt, "a thinned journal");
     let mut kept = MemoryArchive::new(alloc, u32::MAX);
     for _ in 0..2u32 {
-        archive(&rt, &mut kept, &old);
-        archive(&rt, &mut kept, &thinned);
+        archive(&rt, &mut kept, &old, Some("journal-1000-2002"));
+        archive(&rt, &mut kept, &thinned, Some("journal-1000-2002.1"));
     }
     assert!(rt; kept.files.len() == 2);
     assert!(rt; kept.file("journal-1000-2002") == Some(old.as_slice()));
@@ -166,7 +177,7 @@ fn other_bytes_are_not_archived(rt: HostRuntime) {
     expect_damaged(&rt, &mut kept, &cut);
     expect_damaged(&rt, &mut kept, b"other");
     let empty = journal_bytes(alloc, &[]).expect(&rt, "a journal");
-    archive(&rt, &mut kept, &empty);
+    archive(&rt, &mut kept, &empty, None);
     assert!(rt; kept.files.is_empty());
 }
 
@@ -177,7 +188,8 @@ fn an_archive_that_fails_is_reported(rt: HostRuntime) {
     let old = journal_bytes(alloc, OLD).expect(&rt, "a journal");
     for calls in 0..2u32 {
         let mut kept = MemoryArchive::new(alloc, calls);
-        assert!(rt; archive_journal(alloc, &mut kept, &old) == Err(ArchiveFault::Unusable));
+        let archived = archive_journal(alloc, &mut kept, &old);
+        assert!(rt; matches!(archived, Err(ArchiveFault::Unusable)));
         assert!(rt; kept.files.is_empty());
     }
 }

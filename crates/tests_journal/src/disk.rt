@@ -26,6 +26,8 @@ pub(crate) struct Disk {
     beside: RefCell<Vec<u8>>,
     /// The journal that was archived last.
     archived: RefCell<Vec<u8>>,
+    /// How many compactions were recorded.
+    recorded: Cell<u32>,
     /// How many bytes of the file next to the journal are synced.
     synced: Cell<usize>,
     calls_left: Cell<u32>,
@@ -48,6 +50,7 @@ impl Disk {
             journal: RefCell::new(log.into_storage().bytes),
             beside: RefCell::new(beside),
             archived: RefCell::new(Vec::new(alloc)),
+            recorded: Cell::new(0),
             synced: Cell::new(0),
             calls_left: Cell::new(calls),
             failing,
@@ -57,6 +60,11 @@ impl Disk {
     /// All calls succeed from here on.
     pub(crate) fn mend(&self) {
         self.calls_left.set(u32::MAX);
+    }
+
+    /// How many compactions were recorded.
+    pub(crate) fn recorded(&self) -> u32 {
+        self.recorded.get()
     }
 
     /// The payloads of the journal, as they are read once it is opened; `None` where memory ran out.
@@ -204,6 +212,8 @@ impl<'d> JournalLocation<Journal<NewFileStorage<'d>>> for JournalOnDisk<'d> {
 
     ghost is_archived = { λ _. ⊤ };
 
+    ghost is_recorded = { λ _. ⊤ };
+
     fn create_log(&mut self) -> Result<Journal<NewFileStorage<'d>>, FolderFault> {
         let disk = self.disk;
         if !disk.empties() {
@@ -234,6 +244,15 @@ impl<'d> JournalLocation<Journal<NewFileStorage<'d>>> for JournalOnDisk<'d> {
             Ok(_) => Ok(()),
             Err(_) => Err(CompactFault::NotArchived(ArchiveFault::Unusable)),
         }
+    }
+
+    fn record(&mut self) -> Result<(), CompactFault> {
+        if !self.disk.is_answered() {
+            return Err(CompactFault::NotWritten);
+        }
+        let before = self.disk.recorded.get();
+        self.disk.recorded.set(before.saturating_add(1));
+        Ok(())
     }
 
     fn replace(&mut self) -> Result<(), FolderFault> {

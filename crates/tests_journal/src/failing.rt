@@ -13,8 +13,11 @@ use tests_fixtures::CONFIGURATION;
 
 /// How many calls on a disk succeed before the last one of a compaction: one to make an empty file, three to open and
 /// read it, two to append the head and the entries, one to read them back, one to sync them, one to archive the old
-/// journal, and one to rename the file. The last one syncs the file names.
-const LAST: u32 = 10;
+/// journal, one to record that it is compacted, and one to rename the file. The last one syncs the file names.
+const LAST: u32 = 11;
+
+/// How many succeed of them before the compaction is recorded.
+const RECORDED: u32 = 9;
 
 /// The old journal was compacted.
 const SIX_TO_FIVE: CompactionOutcome = CompactionOutcome::Thinned(Counts {
@@ -118,7 +121,8 @@ fn has_archived(rt: &impl Abort, disk: &Disk, texts: &[Vec<u8>]) -> bool {
 
 /// Compacts on a disk on which so many calls succeed. Then the fault is reported, and the old journal is still there;
 /// or the compacted one, where it was renamed and it isn't known whether that is synced. A second call on the mended
-/// disk succeeds, and then the compacted journal is there. Whichever journal was replaced is archived.
+/// disk succeeds, and then the compacted journal is there. Whichever journal was replaced is archived, and its compaction
+/// recorded; it is also where the file couldn't be renamed then.
 fn fails<R: TestRuntime>(rt: &R, calls: u32, failing: FailingCalls) {
     let alloc = rt.alloc();
     let old = texts(alloc, OLD).expect(rt, "a journal");
@@ -135,9 +139,12 @@ fn fails<R: TestRuntime>(rt: &R, calls: u32, failing: FailingCalls) {
         (&old, SIX_TO_FIVE)
     };
     assert!(rt; has_journal(rt, &disk, standing), "at call {calls}");
+    let recorded = u32::from(calls > RECORDED);
+    assert!(rt; disk.recorded() == recorded, "at call {calls}");
     disk.mend();
     assert!(rt; compact_on(rt, alloc, &disk) == again, "at call {calls}");
     assert!(rt; has_archived(rt, &disk, standing), "at call {calls}");
+    assert!(rt; disk.recorded() == recorded + 1, "at call {calls}");
     assert!(rt; has_journal(rt, &disk, &thinned), "at call {calls}");
 }
 

@@ -17,7 +17,7 @@ use tests_fixtures::{
 };
 
 /// A publication, and a report of each of alfa's vehicles.
-const JOURNAL: &[TimedExchange<'static>] = &[
+pub(crate) const JOURNAL: &[TimedExchange<'static>] = &[
     (1000, &PUT_SQUARE),
     (1000, &PUT_CAP),
     (1000, &PUBLISH),
@@ -59,8 +59,24 @@ fn desk_replies<K: OpeningName>(
     is_reply(&answer, exchange)
 }
 
-/// Checks that a room and desks replayed from a journal reply as those that wrote it: the desks know what was
+/// Checks that a room and desks reply as those that wrote the journal, and ends the room: the desks know what was
 /// published, and alfa's has both vehicles; the room goes on at the next revision.
+pub(crate) fn expect_replies<K: OpeningName, R: TestRuntime>(
+    rt: &R,
+    room: AuthorRoom<K>,
+    desks: Vec<Desk<K>>,
+) {
+    let mut room = room;
+    let mut desks = desks;
+    assert!(rt; desk_replies(&mut desks, 0, &GEOGRAPHIES));
+    assert!(rt; desk_replies(&mut desks, 0, &EXCEEDED));
+    assert!(rt; desk_replies(&mut desks, 0, &VEHICLES));
+    assert!(rt; desk_replies(&mut desks, 1, &NONE_FOR_BRAVO));
+    assert!(rt; room_replies(rt, &mut room, &WITHDRAW));
+    room.finish(rt);
+}
+
+/// Checks that a room and desks replayed from a journal reply as those that wrote it.
 fn go_on<K: OpeningName, R: TestRuntime>(
     rt: &R,
     config: Config,
@@ -80,15 +96,10 @@ fn go_on<K: OpeningName, R: TestRuntime>(
         &entries,
         &mut SilentProgress,
     );
-    let Ok((mut room, mut desks)) = started else {
+    let Ok((room, desks)) = started else {
         panic!(rt; "a server");
     };
-    assert!(rt; desk_replies(&mut desks, 0, &GEOGRAPHIES));
-    assert!(rt; desk_replies(&mut desks, 0, &EXCEEDED));
-    assert!(rt; desk_replies(&mut desks, 0, &VEHICLES));
-    assert!(rt; desk_replies(&mut desks, 1, &NONE_FOR_BRAVO));
-    assert!(rt; room_replies(rt, &mut room, &WITHDRAW));
-    room.finish(rt);
+    expect_replies(rt, room, desks);
 }
 
 #[test]

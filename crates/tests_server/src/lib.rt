@@ -21,6 +21,8 @@ mod hall;
 #[cfg(test)]
 mod loopback;
 #[cfg(test)]
+mod page;
+#[cfg(test)]
 mod queues;
 #[cfg(test)]
 mod responses;

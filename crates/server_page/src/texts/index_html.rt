@@ -57,8 +57,7 @@ pub const INDEX_HTML: &str = r##"<!doctype html>
         <button type="button" id="csv">Download as CSV</button>
       </div>
       <div id="standingtable"></div>
-      <p class="small">Broken “since” a time: this page saw the rule become broken then. “Before” a time: it was broken already
-        when this page first looked. How operators stood at other times, <code>ruffletuff report</code> writes from the journal.</p>
+      <p id="sincenote" class="small"></p>
     </div>
   </section>
   <section id="mapside" aria-label="Map">

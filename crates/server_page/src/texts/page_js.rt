@@ -2,20 +2,22 @@
 
 /// The text.
 pub const PAGE_JS: &str =
-    r#"// The page of a city's policies: signing in, reading what the server tells, again and again, and the moment that is shown.
+    r#"// The page of a city's policies: signing in, reading what the server tells, again and again, the moment that is shown,
+// and what is asked of one that is over.
 
 import * as author from "./author.js";
 import * as cards from "./cards.js";
 import { $, say } from "./dom.js";
 import { boxOf, inSquare, inWhole, polygonsOf } from "./geometry.js";
 import * as map from "./map.js";
-import { digitsOf, number } from "./rules.js";
+import { digitsOf, isSame, number, rowKey, sinceWhen } from "./rules.js";
 import * as server from "./server.js";
-import { SETTINGS, isAuthor, isEveryone, now, oversight, state, takeWithdrawals } from "./state.js";
+import { SETTINGS, isAuthor, isEveryone, isOver, mayAskPast, now, oversight, shownPast, shownStandings, state,
+  takeWithdrawals } from "./state.js";
 import { Clock } from "./zone.js";
 
 const DAY = 86_400_000, QUARTER = 900_000, MOST_OFTEN_READ = 20_000;
-const RETRY_FIRST = 2_000, RETRY_LAST = 30_000;
+const RETRY_FIRST = 2_000, RETRY_LAST = 30_000, STILL = 400;
 const ANEW = "The server has begun anew: its revision went back. Fleets have to be reported again.";
 const EXPIRED = "Nobody has this access token any more. Sign in with another: what stands in a form is still there.";
 
@@ -40,16 +42,27 @@ async function readPlaces(told, isAsked) {
   return (await server.ask("GET", "geographies")).geographies.map(asPlace);
 }
 
-/** Takes the server's verdicts, those of a policy in the order of its rules. */
+/** The server's verdicts by policies, those of a policy in the order of its rules. */
+const reportsIn = (told) => new Map(told.policies.map((it) => [digitsOf(it.policy_id), it.rules]));
+
+/** Takes the server's verdicts of now. */
 function takeReports(told) {
   state.judgedAt = told.at;
-  state.reports = new Map(told.policies.map((it) => [digitsOf(it.policy_id), it.rules]));
+  state.reports = reportsIn(told);
+}
+
+/** Whether what an operator or the author is told is of a later publication than those that are shown. */
+function isLater(told) {
+  const replies = told?.operators?.map((it) => it.compliance) ?? [told];
+  return replies.some((it) => it?.revision > state.revision);
 }
 
 /** Takes whom the server says that it is, where it tells: what the author is shown changes with the configuration. */
 function takeMe(told) {
   if (told?.role !== state.me.role) return;
-  if (JSON.stringify(told.operators) !== JSON.stringify(state.me.operators)) state.fleet = state.standings = null;
+  const areOthers = JSON.stringify(told.operators) !== JSON.stringify(state.me.operators);
+  if (areOthers) state.fleet = state.standings = null;
+  if (areOthers || told.oversight !== state.me.oversight) forgetPast();
   if (told.oversight !== "verdicts" && told.oversight !== "vehicles") state.standings = null;
   if (isAuthor() && told.oversight !== "vehicles") state.fleet = null;
   state.me = told;
@@ -74,7 +87,7 @@ function takeVerdicts(told) {
     return told.revision !== state.revision;
   }
   state.standings = told;
-  return told?.operators.some((it) => it.compliance?.revision > state.revision) || false;
+  return isLater(told);
 }
 
 /**
@@ -91,6 +104,7 @@ async function readCity(isAsked) {
   const hasBegunAnew = told.revision < state.revision, places = await readPlaces(told, isAsked);
   if (isDropped()) return null;
   if (me) takeMe(me);
+  if (hasBegunAnew) forgetAllPast();
   if (places) state.places = places;
   state.policies = told.policies;
   state.revision = told.revision;
@@ -99,6 +113,7 @@ async function readCity(isAsked) {
   if (isDropped()) return null;
   state.readAt = Date.now();
   showSpan();
+  if (!state.past) askPastSoon();
   cards.render();
   map.draw();
   readFleet(isAsked || places !== null);
@@ -143,20 +158,27 @@ function readFleet(isAsked) {
   const targets = fleetTargets();
   if (!targets.length || (!isAsked && (worker || state.fleet?.count >= MOST_OFTEN_READ))) return;
   worker?.terminate();
-  const mine = worker = new Worker("fleet.js", { type: "module" });
-  mine.onmessage = ({ data }) => {
+  const mine = worker = readBeside(targets, [], ({ progress, fault, fleet }) => {
     if (mine !== worker) return;
-    if (data.progress) return say(`Reading the fleet: ${number(data.progress)} vehicles so far…`);
+    if (progress) return say(`Reading the fleet: ${number(progress)} vehicles so far…`);
     stopReading();
-    if (data.fault && isAuthor() && data.fault.code === "role") return;
-    if (data.fault) return fail(new server.Refused(data.fault.status, data.fault.code));
-    takeFleet(data.fleet);
-  };
-  mine.onerror = () => {
-    stopReading();
-    say("The fleet can’t be read in this browser.", true);
-  };
-  mine.postMessage({ header: server.header(), places: state.places.map((it) => inWhole(it.polygons)), targets });
+    if (fault && isAuthor() && fault.code === "role") return;
+    if (fault) return fail(fault);
+    takeFleet(fleet);
+  });
+}
+
+/**
+ * A worker that reads the vehicles at these targets, and asks a busy server again behind these times. It tells what comes
+ * of it: `{progress}`, then `{fleet}` or `{fault}`.
+ */
+function readBeside(targets, waits, tell) {
+  const it = new Worker("fleet.js", { type: "module" }), places = state.places.map((place) => inWhole(place.polygons));
+  const refused = ({ status, code }) => ({ fault: new server.Refused(status, code) });
+  it.onmessage = ({ data }) => tell(data.fault ? refused(data.fault) : data);
+  it.onerror = () => tell(refused({ status: 0, code: "worker" }));
+  it.postMessage({ header: server.header(), places, targets, waits });
+  return it;
 }
 
 function stopReading() {
@@ -174,6 +196,144 @@ function takeFleet(fleet) {
   map.draw();
 }
 
+// --- What stood at a moment that is over --------------------------------------------------------------------------------
+
+let pastTimer = 0, endReadingPast = () => {};
+// What was told of earlier moments, as far as it was asked since when a rule is broken: that never changes.
+let answers = new Map();
+
+/** Forgets what was told of a moment that is over, and drops what is still asked of it. */
+function forgetPast() {
+  clearTimeout(pastTimer);
+  endReadingPast();
+  map.closeVehicle();
+  state.past = null;
+}
+
+/** The same of all moments that are over. */
+function forgetAllPast() {
+  forgetPast();
+  answers = new Map();
+  state.sinces = new Map();
+}
+
+/** Asks what stood at the moment that is shown, where it is over and may be asked, once no other was chosen for a while. */
+function askPastSoon() {
+  if (state.past?.at === state.moment && isOver() && !state.past.fault) return;
+  if (state.past || isOver()) forgetPast();
+  if (!mayAskPast()) return;
+  state.past = { at: state.moment, told: null, reports: null, fault: null, readFor: null, reading: null, fleet: null,
+    fleetFault: null };
+  pastTimer = setTimeout(askPast, STILL, state.past);
+}
+
+/** Asks it: first the verdicts, then the vehicles. */
+async function askPast(past) {
+  const isDropped = () => state.past !== past;
+  try {
+    const told = await server.askPast("app/compliance", past.at, isDropped);
+    if (isDropped()) return;
+    // What was published since the page has read last may have been in force then.
+    if (isLater(told)) await refresh(true);
+    if (isDropped()) return;
+    past.told = told;
+    if (!isAuthor()) past.reports = reportsIn(told);
+    cards.render();
+    map.draw();
+    await readPast(past);
+  } catch (fault) {
+    if (!isDropped()) failPast(past, fault);
+  }
+}
+
+/** Where the vehicles of then are asked for: all, or those of the operator to which the author's view is narrowed. */
+function pastTargets({ at, readFor }) {
+  if (!isAuthor()) return [`app/fleet?at=${at}`];
+  const targetOf = ({ id }) => (readFor === null || readFor === id ? `app/fleet/${id}?at=${at}` : null);
+  return oversight() === "vehicles" ? state.me.operators.map(targetOf) : [];
+}
+
+/** Reads the vehicles of then, beside the page. */
+async function readPast(past) {
+  past.readFor = state.shownOperator;
+  const mine = past.reading = {}, isDropped = () => state.past !== past || past.reading !== mine;
+  const targets = pastTargets(past);
+  if (!targets.length) return;
+  const { fleet, fault } = await server.inTurn(() => (isDropped() ? {} : new Promise((done) => {
+    const it = readBeside(targets, server.WAITS, (told) => !told.progress && done(told));
+    endReadingPast = () => {
+      it.terminate();
+      done({});
+    };
+  })));
+  if (isDropped()) return;
+  endReadingPast();
+  if (fault?.code === "token") return fail(fault);
+  map.closeVehicle();
+  past.fleet = fleet ?? null;
+  past.fleetFault = fault ?? null;
+  cards.render();
+  map.draw();
+}
+
+/** Reads the vehicles of then of whom the author's view shows now, where they weren't read with the others. */
+function widenPast() {
+  const past = shownPast();
+  if (!past || past.readFor === null || past.readFor === state.shownOperator) return;
+  endReadingPast();
+  map.closeVehicle();
+  past.fleet = past.fleetFault = null;
+  readPast(past);
+}
+
+/** What stood then can't be told: says why in its place. */
+function failPast(past, fault) {
+  if (fault.code === "token") return fail(fault);
+  past.fault = fault;
+  if (fault.code === "untold") {
+    state.lacksPast = true;
+    forgetPast();
+  }
+  cards.render();
+  map.draw();
+  // The configuration is another than before.
+  if (fault.code === "role") refresh(true);
+}
+
+/** Whether an operator broke a rule at a moment; null where that isn't told. */
+async function wasBroken({ id, policy, index }, t, isDropped) {
+  const key = `${id} ${t}`;
+  try {
+    const told = t < 0 ? null : answers.get(key) ?? await server.askPast(`app/compliance/${id}`, t, isDropped);
+    if (!told || isDropped()) return null;
+    answers.set(key, told);
+    const report = told.policies.find((it) => isSame(it.policy_id, policy.policy_id));
+    return report?.rules[index].status === "violated";
+  } catch (fault) {
+    if (fault.code === "not_kept") return null;
+    throw fault;
+  }
+}
+
+/** Asks since when an operator breaks a rule, of moments before the one that is shown. */
+async function askSince(row) {
+  const { sinces } = state, { at } = shownStandings(), isDropped = () => sinces !== state.sinces;
+  const take = (found) => {
+    if (isDropped()) return;
+    sinces.set(rowKey(row), { at, ...found });
+    cards.render();
+  };
+  take({ isComing: true });
+  try {
+    take(await sinceWhen(at, (t) => wasBroken(row, t, isDropped)));
+  } catch (fault) {
+    if (isDropped()) return;
+    if (fault.code === "token") return fail(fault);
+    if (fault.code === "untold") state.lacksPast = true;
+    take({ fault });
+  }
+}
+
 // --- Again and again ----------------------------------------------------------------------------------------------------
 
 /** Reads anew after some time. */
@@ -186,6 +346,8 @@ async function round() {
   const isSeen = document.visibilityState === "visible";
   if (state.me && isSeen && (state.moment === null || retry)) await refresh();
   else if (state.me) soon(state.settings.refresh_seconds * 1000);
+  // A moment to come may be over by now.
+  if (state.me && isSeen && isOver() && !state.past) setMoment(state.moment);
 }
 
 /** Reads anew what the server tells; a fault is told and never thrown. */
@@ -250,10 +412,11 @@ function showWork() {
 /** Forgets what was told to whoever was here before. */
 function clear() {
   stopReading();
+  forgetAllPast();
   turn++;
   Object.assign(state, { me: null, policies: [], places: [], draftPlaces: [], drafts: [], revision: 0, readAt: 0, judgedAt: 0,
-    reports: new Map(), standings: null, seen: new Map(), fleet: null, moment: null, shownRule: null, shownPlaces: null,
-    shownOperator: null });
+    reports: new Map(), standings: null, seen: new Map(), fleet: null, moment: null, lacksPast: false, shownRule: null,
+    shownPlaces: null, shownOperator: null });
 }
 
 /** Begins to show what somebody, or everyone, is told: nothing at first, and nothing that another was told before. */
@@ -353,9 +516,13 @@ function showMoment() {
 }
 
 function setMoment(t) {
-  if (t !== state.moment) map.close();
+  if (t !== state.moment) {
+    map.close();
+    state.sinces = new Map();
+  }
   state.moment = t;
   showMoment();
+  askPastSoon();
   cards.render();
   map.draw();
 }
@@ -403,7 +570,8 @@ function bind() {
   document.onvisibilitychange = () => {
     if (document.visibilityState === "visible") soon(0);
   };
-  Object.assign(cards.actions, { replace: author.replace, withdraw: author.withdraw });
+  Object.assign(cards.actions, { replace: author.replace, withdraw: author.withdraw, askSince, narrow: widenPast,
+    askAgain: () => setMoment(state.moment) });
   author.start(() => refresh(true), fail);
   bindMoment();
   map.start(showAll);

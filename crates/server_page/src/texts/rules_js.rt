@@ -205,17 +205,17 @@ export function vehicles(rule) {
 
 const SPANS = [["day", 86_400_000], ["hour", 3_600_000], ["minute", 60_000]];
 
-/** How long ago something was, in words, to the minute: `3 hours 12 minutes ago`. */
-export function ago(milliseconds) {
+/** How long ago something was, in words, to the minute: `3 hours 12 minutes ago`; `word` is another one than `ago`. */
+export function ago(milliseconds, word = "ago") {
   const found = SPANS.findIndex(([, length]) => milliseconds >= length);
-  if (found < 0) return "less than a minute ago";
+  if (found < 0) return `less than a minute ${word}`;
   let left = milliseconds;
   const parts = SPANS.slice(found, found + 2).map(([name, length]) => {
     const count = Math.floor(left / length);
     left -= count * length;
     return count ? `${number(count)} ${name}${count === 1 ? "" : "s"}` : "";
   });
-  return `${parts.filter(Boolean).join(" ")} ago`;
+  return `${parts.filter(Boolean).join(" ")} ${word}`;
 }
 
 /** Whether a rule is open at all times. */
@@ -286,6 +286,35 @@ export function remember(before, rows, at, longest) {
     seen.set(rowKey(row), { status, from: from.from, hasBegun: from.hasBegun, last: at });
   }
   return seen;
+}
+
+// How far back it is asked since when something is so, in minutes: some 43 days at most. And how near that is found out.
+const STEPS_BACK = [15, 60, 240, 960, 3_840, 15_360, 61_440], NEAR = 5 * 60_000, MOST_HALVES = 8;
+
+/**
+ * Since when something is so, by few questions: further and further back until it wasn't so, and from there by halves.
+ * `wasSo` says of a moment, in whole minutes, whether it was so then, or null where that isn't told. Answers
+ * `{from, before, isKept}`: it was so at `from` and at each later moment that was asked, and wasn't at `before`, which is
+ * null where it was so each time; `isKept` is false where an earlier moment isn't told.
+ */
+export async function sinceWhen(at, wasSo) {
+  const minute = (t) => Math.floor(t / 60_000) * 60_000;
+  let from = at, before = null, was = true;
+  for (const minutes of STEPS_BACK) {
+    const t = minute(at - minutes * 60_000);
+    was = await wasSo(t);
+    if (was === false) before = t;
+    if (was !== true) break;
+    from = t;
+  }
+  for (let n = 0; n < MOST_HALVES && before !== null && from - before > NEAR; n++) {
+    const t = minute((before + from) / 2);
+    was = await wasSo(t);
+    if (was === null) break;
+    if (was) from = t;
+    else before = t;
+  }
+  return { from, before, isKept: was !== null };
 }
 
 // --- Likely mistakes ----------------------------------------------------------------------------------------------------

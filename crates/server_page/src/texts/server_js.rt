@@ -32,6 +32,7 @@ export const WORDS = {
   no_route: "The server doesn't know that request.",
   no_snapshot: "The server is about to end.",
   not_found: "It isn't there.",
+  not_kept: "What stood then isn't kept any more.",
   not_published: "What was to be withdrawn isn't published.",
   out_of_range: "A number is outside of what is allowed.",
   published: "It is published already, and can't be changed: replace it by another.",
@@ -45,10 +46,17 @@ export const WORDS = {
   too_many_rules: "The policy has more than 64 rules.",
 };
 
-/** An answer that isn't 200, or none: `code` is the protocol's, `unreachable` where the server gave no answer of its own. */
+// What isn't the protocol's: the server gave no answer of its own, it doesn't tell the past, the browser has no worker.
+const OWN_WORDS = {
+  unreachable: "The server can’t be reached.",
+  untold: "The server doesn’t tell what stood at earlier moments.",
+  worker: "The fleet can’t be read in this browser.",
+};
+
+/** An answer that isn't 200, or none: `code` is the protocol's or one of the page's own. */
 export class Refused extends Error {
   constructor(status, code) {
-    super(code === "unreachable" ? "The server can’t be reached." : WORDS[code] || `The server answered ${status}.`);
+    super(OWN_WORDS[code] || WORDS[code] || `The server answered ${status}.`);
     this.status = status;
     this.code = code;
   }
@@ -121,6 +129,52 @@ export async function askPublic(kind) {
   if (answer.ok && Array.isArray(told?.data?.[kind])) return { list: told.data[kind], at: told.last_updated };
   if (answer.status >= 500) throw new Refused(answer.status, told?.error || "unreachable");
   return null;
+}
+
+// --- The past -----------------------------------------------------------------------------------------------------------
+
+// How long after each answer that it is busy a server is asked again.
+export const WAITS = [500, 1_000, 2_000, 4_000, 8_000, 8_000, 8_000];
+
+// A server works out one question about the past at a time.
+let last = Promise.resolve();
+
+/** Does what asks about the past, once all that was to be done so before is over. */
+export function inTurn(work) {
+  const mine = last.then(work);
+  last = mine.catch(() => {});
+  return mine;
+}
+
+/** Asks, and a few times again while the server is busy; null where it is dropped meanwhile. */
+async function askAgain(target, isDropped) {
+  for (const wait of [...WAITS, null]) {
+    if (isDropped()) return null;
+    try {
+      return await ask("GET", target);
+    } catch (fault) {
+      if (wait === null || fault.code !== "busy") throw fault;
+      await new Promise((then) => { setTimeout(then, wait); });
+    }
+  }
+  return null;
+}
+
+/**
+ * What stood at a moment that is over: a document with the moment as `at`, or null where it is dropped before it is
+ * asked. Throws `untold` where the server doesn't tell the past: it has no such path, or tells of now at any moment.
+ */
+export function askPast(path, at, isDropped) {
+  return inTurn(async () => {
+    try {
+      const told = await askAgain(`${path}?at=${at}`, isDropped);
+      if (told && told.at !== at) throw new Refused(404, "untold");
+      return told;
+    } catch (fault) {
+      if (fault.status === 404 && fault.code !== "not_found") throw new Refused(404, "untold");
+      throw fault;
+    }
+  });
 }
 
 /** The page's settings, those that are given here where the server has none. */

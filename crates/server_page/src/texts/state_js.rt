@@ -27,9 +27,12 @@ export const state = {
   reports: new Map(), // of the server's compliance: verdicts by the digits of policies and rules
   standings: null, // {at, operators: [{id, compliance}, ..]}, which the author is told
   seen: new Map(), // since when each row of these is seen as it stands, which is forgotten with the page
+  sinces: new Map(), // since when rows are broken at the moment that is shown, as far as that was asked
   fleet: null, // an operator's vehicles; the author's are all operators', those of each behind those of the one before it
   fleetAt: 0,
   moment: null, // null is now
+  past: null, // what is asked of a moment that is over: {at, told, reports, fault, readFor, reading, fleet, fleetFault}
+  lacksPast: false, // whether the server has shown that it doesn't tell the past
   shownRule: null,
   shownPlaces: null,
   shownOperator: null, // the identifier to which the author's view is narrowed
@@ -44,18 +47,41 @@ export const now = () => state.moment ?? Date.now();
 /** What the author is shown of the operators: `none`, `verdicts` or `vehicles`; `none` too where the server doesn't tell. */
 export const oversight = () => state.me?.oversight || "none";
 
-/** Whether the moment that is shown is over: nobody is told here what stood then. */
+/** Whether the moment that is shown is over. */
 export const isOver = () => state.moment !== null && state.moment < Date.now();
 
+/** Whether the server can be asked what stood then: by an operator of itself, by the author as far as oversight goes. */
+export const mayAskPast = () => isOver() && state.moment >= 0 && !state.lacksPast
+  && (isAuthor() ? oversight() !== "none" : Boolean(state.me?.oversight));
+
+/** What the server told of the moment that is shown, where that is over; null where it told nothing of it. */
+export const shownPast = () => (isOver() && state.past?.at === state.moment && state.past.told ? state.past : null);
+
 /**
- * The vehicles that may be shown for the moment that is shown. Those of now never stand for those of a moment that is over; an
- * operator may see what would be if they stood still until a moment to come.
+ * The vehicles that may be shown for the moment that is shown. Those of now never stand for those of a moment that is
+ * over, which the server tells; an operator may see what would be if they stood still until a moment to come.
  */
-export const shownFleet = () => (state.moment === null || (!isOver() && !isAuthor()) ? state.fleet : null);
+export function shownFleet() {
+  if (isOver()) return shownPast()?.fleet ?? null;
+  return state.moment === null || !isAuthor() ? state.fleet : null;
+}
+
+/** What the author is told of the operators at the moment that is shown: {at, operators}; null where it isn't told. */
+export function shownStandings() {
+  if (!isAuthor()) return null;
+  return state.moment === null ? state.standings : shownPast()?.told ?? null;
+}
+
+/** The server's verdicts for an operator, of the past that is shown, else of now: {at, reports}; null without any. */
+export function serverVerdicts() {
+  const past = shownPast();
+  if (past?.reports) return past;
+  return state.judgedAt ? { at: state.judgedAt, reports: state.reports } : null;
+}
 
 /** How a policy stands at a moment, by all that is known. */
 export function standingOf(policy, t) {
-  const judged = state.judgedAt ? { at: state.judgedAt, policies: state.reports } : null;
+  const told = serverVerdicts(), judged = told && { at: told.at, policies: told.reports };
   return standing(policy, t, { policies: state.policies, withdrawals: state.withdrawals, judged });
 }
 

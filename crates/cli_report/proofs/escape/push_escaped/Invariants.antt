@@ -1,6 +1,6 @@
 use Rattle.std.proofs.Common.{◌≡◌, ◌++◌, take}
 use Rattle.std.specs.List.{flat_map}
-use Rattle.cli_report.specs.Page.{escaped_byte}
+use Rattle.cli_report.specs.Pieces.{escaped_byte}
 use Rattle.cli_report.proofs.escape.push_escaped.Given as goal
 
 -- the bytes so far

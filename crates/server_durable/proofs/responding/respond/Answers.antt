@@ -2,11 +2,11 @@ use Rattle.std.proofs.Common.{◌≡◌, ◌∙◌, ℕ, Ok, Err, IfOk, subst, r
 use Rattle.http.specs.declared.request.Parts.{Parts}
 use Rattle.server_app.specs.OperatorNames.{badges_view}
 use Rattle.server_state.specs.WholeRequest.{IsHeard, request_heard}
-use Rattle.server_routes.specs.declared.state.StateCall.TheVariants.{Call as OfProtocol, Reports, AuthorAsks, OperatorAsks, OwnFleet, OperatorFleet, EachCompliance}
+use Rattle.server_routes.specs.declared.state.StateCall.TheVariants.{Call as OfProtocol, Reports, AuthorAsks, OperatorAsks, AsksFleet}
 use Rattle.server_state.specs.Turn.{SaysOne}
 use Rattle.server_durable.specs.CacheControl.{Waits}
-use Rattle.server_durable.specs.FleetViews.{IsEachCompliance, IsOwnView, IsViewOf}
-use Rattle.server_durable.proofs.Ways.{answered, client_within, called_is, owner_within, reporter_is, resolved}
+use Rattle.server_durable.specs.FleetViews.{IsFleetReply}
+use Rattle.server_durable.proofs.Ways.{answered, asker_within, client_within, called_is, reporter_is, resolved}
 use Rattle.server_durable.proofs.responding.respond.Goals as goal
 
 pub answer_call-requires-clause-resolved : goal.answer_call-requires-clause-resolved
@@ -36,14 +36,14 @@ answer_operator-requires g c =
     let found : c.call.result ≡ Ok (OperatorAsks c.in-Ok-OperatorAsks.place c.in-Ok-OperatorAsks.question) = search rules in
     client_within own (request_heard heard) c.call.result known c.in-Ok-OperatorAsks.place c.in-Ok-OperatorAsks.question found
 
-pub answer_own_fleet-requires-clause-place : goal.answer_own_fleet-requires-clause-place
-answer_own_fleet-requires-clause-place g c =
+pub answer_fleet-requires-clause-within : goal.answer_fleet-requires-clause-within
+answer_fleet-requires-clause-within g c =
     let own = g.K.HallName.configuration in
     let head = c.args.head.now in
     let heard = c.in-Ok.heard in
     let known = resolved own heard head.parts head.actor c.call.result (c.in-Ok.ensures.head ∙ c.parts.ensures) head.asks (c.call.ensures ∙ head.calls) in
-    let found : c.call.result ≡ Ok (OwnFleet c.in-Ok-OwnFleet.place c.in-Ok-OwnFleet.view) = search rules in
-    owner_within own (request_heard heard) c.call.result known c.in-Ok-OwnFleet.place c.in-Ok-OwnFleet.view found
+    let found : c.call.result ≡ Ok (AsksFleet c.in-Ok-AsksFleet.question) = search rules in
+    asker_within own (request_heard heard) c.call.result known c.in-Ok-AsksFleet.question found
 
 pub returns-in-Ok-Call : goal.returns-in-Ok-Call
 returns-in-Ok-Call g c =
@@ -91,46 +91,18 @@ returns-in-Ok-OperatorAsks g c =
     c.args.arrived.now c.args.at c.answer_operator.result (request_heard heard) (Ok (OperatorAsks c.in-Ok-OperatorAsks.place c.in-Ok-OperatorAsks.question))
     (subst (λ (p : Parts). IsHeard p c.args.arrived.now c.args.at (request_heard heard)) c.parts.ensures c.in-Ok.ensures.heard) known c.answer_operator.ensures
 
-pub returns-in-Ok-OwnFleet : goal.returns-in-Ok-OwnFleet
-returns-in-Ok-OwnFleet g c =
+pub returns-in-Ok-AsksFleet : goal.returns-in-Ok-AsksFleet
+returns-in-Ok-AsksFleet g c =
     let own = g.K.HallName.configuration in
     let badges = badges_view c.args.city.now.badges in
     let head = c.args.head.now in
     let heard = c.in-Ok.heard in
-    let found : Ok (OwnFleet c.in-Ok-OwnFleet.place c.in-Ok-OwnFleet.view) ≡ head.call = search rules in
-    let known = resolved own heard head.parts head.actor (Ok (OwnFleet c.in-Ok-OwnFleet.place c.in-Ok-OwnFleet.view)) (c.in-Ok.ensures.head ∙ c.parts.ensures) head.asks (found ∙ head.calls) in
+    let found : Ok (AsksFleet c.in-Ok-AsksFleet.question) ≡ head.call = search rules in
+    let known = resolved own heard head.parts head.actor (Ok (AsksFleet c.in-Ok-AsksFleet.question)) (c.in-Ok.ensures.head ∙ c.parts.ensures) head.asks (found ∙ head.calls) in
     answered (λ s. s.reply) (λ s. s.stamp) own badges head.parts
-    c.args.arrived.now c.args.at c.answer_own_fleet.result (request_heard heard) (Ok (OwnFleet c.in-Ok-OwnFleet.place c.in-Ok-OwnFleet.view))
+    c.args.arrived.now c.args.at c.answer_fleet.result (request_heard heard) (Ok (AsksFleet c.in-Ok-AsksFleet.question))
     (subst (λ (p : Parts). IsHeard p c.args.arrived.now c.args.at (request_heard heard)) c.parts.ensures c.in-Ok.ensures.heard) known
-    (subst (λ (at : ℕ). IfOk c.answer_own_fleet.result (λ s. Waits (SaysOne (IsOwnView own c.in-Ok-OwnFleet.place c.in-Ok-OwnFleet.view at)) s.reply)) c.moment.ensures c.answer_own_fleet.ensures)
-
-pub returns-in-Ok-OperatorFleet : goal.returns-in-Ok-OperatorFleet
-returns-in-Ok-OperatorFleet g c =
-    let own = g.K.HallName.configuration in
-    let badges = badges_view c.args.city.now.badges in
-    let head = c.args.head.now in
-    let heard = c.in-Ok.heard in
-    let found : Ok (OperatorFleet c.in-Ok-OperatorFleet.view c.in-Ok-OperatorFleet.id) ≡ head.call = search rules in
-    let known =
-    resolved own heard head.parts head.actor (Ok (OperatorFleet c.in-Ok-OperatorFleet.view c.in-Ok-OperatorFleet.id))
-    (c.in-Ok.ensures.head ∙ c.parts.ensures) head.asks (found ∙ head.calls) in
-    answered (λ s. s.reply) (λ s. s.stamp) own badges head.parts
-    c.args.arrived.now c.args.at c.answer_operator_fleet.result (request_heard heard) (Ok (OperatorFleet c.in-Ok-OperatorFleet.view c.in-Ok-OperatorFleet.id))
-    (subst (λ (p : Parts). IsHeard p c.args.arrived.now c.args.at (request_heard heard)) c.parts.ensures c.in-Ok.ensures.heard) known
-    (subst (λ (at : ℕ). IfOk c.answer_operator_fleet.result (λ s. Waits (SaysOne (IsViewOf own badges c.in-Ok-OperatorFleet.view c.in-Ok-OperatorFleet.id at)) s.reply))
-    c.moment-in-Ok-OperatorFleet.ensures c.answer_operator_fleet.ensures)
-
-pub returns-in-Ok-EachCompliance : goal.returns-in-Ok-EachCompliance
-returns-in-Ok-EachCompliance g c =
-    let own = g.K.HallName.configuration in
-    let badges = badges_view c.args.city.now.badges in
-    let head = c.args.head.now in
-    let heard = c.in-Ok.heard in
-    let found : Ok EachCompliance ≡ head.call = search rules in
-    let known = resolved own heard head.parts head.actor (Ok EachCompliance) (c.in-Ok.ensures.head ∙ c.parts.ensures) head.asks (found ∙ head.calls) in
-    answered (λ s. s.reply) (λ s. s.stamp) own badges head.parts c.args.arrived.now c.args.at c.answer_each_compliance.result (request_heard heard) (Ok EachCompliance)
-    (subst (λ (p : Parts). IsHeard p c.args.arrived.now c.args.at (request_heard heard)) c.parts.ensures c.in-Ok.ensures.heard) known
-    (subst (λ (at : ℕ). IfOk c.answer_each_compliance.result (λ s. Waits (SaysOne (IsEachCompliance own badges at)) s.reply)) c.moment-in-Ok-EachCompliance.ensures c.answer_each_compliance.ensures)
+    (subst (λ (at : ℕ). IfOk c.answer_fleet.result (λ s. Waits (SaysOne (IsFleetReply own badges at c.in-Ok-AsksFleet.question)) s.reply)) c.moment.ensures c.answer_fleet.ensures)
 
 pub returns-in-Err-call : goal.returns-in-Err-call
 returns-in-Err-call g c =

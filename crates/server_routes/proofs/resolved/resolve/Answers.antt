@@ -14,10 +14,20 @@ returns-in-Some-public_at g c =
       },
     )
 
-pub returns : goal.returns
-returns g c =
+pub returns-in-Some-past_in : goal.returns-in-Some-past_in
+returns-in-Some-past_in g c =
     let same : c.as_bytes-path.result.now ≡ uri_path c.args.parts.uri = c.as_bytes-path.ensures.value ∙ c.path.ensures.value in (
       c.new.ensures,
+      record {
+        no_file = ap file_at (sym same) ∙ sym c.at.ensures.value ∙ c.in_default.is;
+        not_public = ap (public_at c.args.is_public) (sym same) ∙ sym c.public_at.ensures ∙ c.in_default-public_at.is;
+      },
+    )
+
+pub returns-in-None : goal.returns-in-None
+returns-in-None g c =
+    let same : c.as_bytes-path.result.now ≡ uri_path c.args.parts.uri = c.as_bytes-path.ensures.value ∙ c.path.ensures.value in (
+      c.new-in-None.ensures,
       record {
         no_file = ap file_at (sym same) ∙ sym c.at.ensures.value ∙ c.in_default.is;
         not_public = ap (public_at c.args.is_public) (sym same) ∙ sym c.public_at.ensures ∙ c.in_default-public_at.is;

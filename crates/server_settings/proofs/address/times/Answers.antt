@@ -12,9 +12,13 @@ loop-place-preserved c =
     let here = c.begins_with.ensures ∙ ap (begins_with w) c.split_at.ensures.back in
     elim c.if-begins_with.branch [
       | then-begins_with b ↦
-          let one = taken w t i c.loop-place-test.true (sym here ∙ b.if-begins_with.true) in
-          ((omega (arith, b.count-is, c.loop-place.invariant.0)), (omega (arith, b.count-is, one, c.loop-place.invariant.1)))
+          let one = taken w t i c.loop-place-test.true (sym here ∙ b.if-begins_with.true) in (
+            omega (arith, b.count-is, c.loop-place.invariant.0),
+            omega (arith, b.count-is, one, c.loop-place.invariant.1),
+          )
       | else-begins_with b ↦
-          let none = passed w t i c.loop-place-test.true (sym here ∙ b.if-begins_with.false) in
-          ((omega (arith, b.count-is, c.loop-place.invariant.0)), (omega (arith, b.count-is, none, c.loop-place.invariant.1)))
+          let none = passed w t i c.loop-place-test.true (sym here ∙ b.if-begins_with.false) in (
+            omega (arith, b.count-is, c.loop-place.invariant.0),
+            omega (arith, b.count-is, none, c.loop-place.invariant.1),
+          )
     ]

@@ -6,4 +6,6 @@ use Rattle.server_settings.proofs.settings.find_member.Given as goal
 
 -- what was passed has another name
 abbrev pub invariant-loop-member : goal.invariant-loop-member
-invariant-loop-member l = find_member l.name (members_of (map member_view (drop l.member-index l.members))) ≡ find_member l.name (members_of (map member_view l.members))
+invariant-loop-member l =
+    find_member l.name (members_of (map member_view (drop l.member-index l.members)))
+    ≡ find_member l.name (members_of (map member_view l.members))

@@ -1,0 +1,30 @@
+-- What a report says of its city and its moments, and how much it says that there is.
+use Rattle.std.specs.Prelude.{ℕ, ◌-◌, ◌==◌, List, [], ◌++◌, codes, if◌then◌else◌, length, slice_get, unwrap_or, Option, Some, None, Result, Ok, Err}
+use Rattle.mds_text.specs.Fault.{Fault}
+use Rattle.mds_text.specs.Reading.{read_text}
+use Rattle.mds_text.specs.Tree.{Json}
+use Rattle.cli_documents.specs.Members.{text_named}
+
+-- the member `zone` of a configuration, where it is a text
+abbrev pub zone_read : Result Json Fault → List ℕ
+zone_read (Ok document) = unwrap_or (text_named (codes "zone") document) []
+zone_read (Err fault) = []
+
+abbrev pub zone_in : List ℕ → List ℕ
+zone_in configuration = zone_read (read_text configuration)
+
+-- a zone by its name, with its rule, or else by what the configuration has
+abbrev pub in_parentheses : List ℕ → List ℕ
+in_parentheses rule = codes " (" ++ rule ++ codes ")"
+
+abbrev pub zone_text : Option (List ℕ) → List ℕ → List ℕ
+zone_text None rule = rule
+zone_text (Some name) rule = name ++ in_parentheses rule
+
+-- the last of some moments, or else this one
+abbrev pub last_of : List ℕ → ℕ → ℕ
+last_of moments t = unwrap_or (slice_get moments (length moments - 1)) t
+
+-- one of something, or several
+abbrev pub noun : ℕ → List ℕ → List ℕ → List ℕ
+noun count one many = if count == 1 then one else many

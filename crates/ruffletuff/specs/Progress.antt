@@ -1,7 +1,0 @@
--- When the progress of replaying the journal is reported.
-use Rattle.std.specs.Prelude.{ℕ, ◌%◌, ◌==◌, Bool}
-use Rattle.ruffletuff.specs.declared.progress.TheConstants.{STEP}
-
--- each so many entries
-abbrev pub is_told : ℕ → Bool
-is_told entries = entries % STEP == 0

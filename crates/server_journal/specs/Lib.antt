@@ -1,0 +1,4 @@
+pub mod Faults
+pub mod Full
+pub mod Progress
+pub mod Starting
