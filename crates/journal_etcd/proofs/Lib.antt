@@ -1,0 +1,3 @@
+pub mod Numerals
+pub mod Spelled
+pub mod Said
