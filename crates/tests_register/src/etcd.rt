@@ -24,79 +24,77 @@ const ONE_END: LogEnd = LogEnd {
 };
 
 /// The answer to a look where neither key is there.
-const MISSING: &[u8] =
-    br#"{"header":{"cluster_id":"9038501614830948466","member_id":"8781887886688708772","revision":"42513","raft_term":"55"}}"#;
+const MISSING: &str =
+    r#"{"header":{"cluster_id":"9038501614830948466","member_id":"8781887886688708772","revision":"42513","raft_term":"55"}}"#;
 
 /// The answer to a look at the register of the first claim.
-const CLAIMED: &[u8] =
-    br#"{"header":{"cluster_id":"9038501614830948466","member_id":"8781887886688708772","revision":"42514","raft_term":"55"},"kvs":[{"key":"Yy9oZWFk","create_revision":"42514","mod_revision":"42514","version":"1","value":"MSAxIDAgMCAwIDAgMCAwIDAgMCAwIDAgMCAwIDAgMCAwIDAg"},{"key":"Yy9vd25lcg==","create_revision":"42514","mod_revision":"42514","version":"1","value":"MSAxIDcg"}],"count":"2"}"#;
+const CLAIMED: &str =
+    r#"{"header":{"cluster_id":"9038501614830948466","member_id":"8781887886688708772","revision":"42514","raft_term":"55"},"kvs":[{"key":"Yy9oZWFk","create_revision":"42514","mod_revision":"42514","version":"1","value":"MSAxIDAgMCAwIDAgMCAwIDAgMCAwIDAgMCAwIDAgMCAwIDAg"},{"key":"Yy9vd25lcg==","create_revision":"42514","mod_revision":"42514","version":"1","value":"MSAxIDcg"}],"count":"2"}"#;
 
 /// The answer to the first claim.
-const WON: &[u8] =
-    br#"{"header":{"cluster_id":"9038501614830948466","member_id":"8781887886688708772","revision":"42514","raft_term":"55"},"succeeded":true,"responses":[{"response_put":{"header":{"revision":"42514"}}},{"response_put":{"header":{"revision":"42514"}}},{"response_range":{"header":{"revision":"42514"},"kvs":[{"key":"Yy9oZWFk","create_revision":"42514","mod_revision":"42514","version":"1","value":"MSAxIDAgMCAwIDAgMCAwIDAgMCAwIDAgMCAwIDAgMCAwIDAg"},{"key":"Yy9vd25lcg==","create_revision":"42514","mod_revision":"42514","version":"1","value":"MSAxIDcg"}],"count":"2"}}]}"#;
+const WON: &str =
+    r#"{"header":{"cluster_id":"9038501614830948466","member_id":"8781887886688708772","revision":"42514","raft_term":"55"},"succeeded":true,"responses":[{"response_put":{"header":{"revision":"42514"}}},{"response_put":{"header":{"revision":"42514"}}},{"response_range":{"header":{"revision":"42514"},"kvs":[{"key":"Yy9oZWFk","create_revision":"42514","mod_revision":"42514","version":"1","value":"MSAxIDAgMCAwIDAgMCAwIDAgMCAwIDAgMCAwIDAgMCAwIDAg"},{"key":"Yy9vd25lcg==","create_revision":"42514","mod_revision":"42514","version":"1","value":"MSAxIDcg"}],"count":"2"}}]}"#;
 
 /// The answer to the same claim, sent again.
-const AGAIN: &[u8] =
-    br#"{"header":{"cluster_id":"9038501614830948466","member_id":"8781887886688708772","revision":"42514","raft_term":"55"},"responses":[{"response_range":{"header":{"revision":"42514"},"kvs":[{"key":"Yy9oZWFk","create_revision":"42514","mod_revision":"42514","version":"1","value":"MSAxIDAgMCAwIDAgMCAwIDAgMCAwIDAgMCAwIDAgMCAwIDAg"},{"key":"Yy9vd25lcg==","create_revision":"42514","mod_revision":"42514","version":"1","value":"MSAxIDcg"}],"count":"2"}}]}"#;
+const AGAIN: &str =
+    r#"{"header":{"cluster_id":"9038501614830948466","member_id":"8781887886688708772","revision":"42514","raft_term":"55"},"responses":[{"response_range":{"header":{"revision":"42514"},"kvs":[{"key":"Yy9oZWFk","create_revision":"42514","mod_revision":"42514","version":"1","value":"MSAxIDAgMCAwIDAgMCAwIDAgMCAwIDAgMCAwIDAgMCAwIDAg"},{"key":"Yy9vd25lcg==","create_revision":"42514","mod_revision":"42514","version":"1","value":"MSAxIDcg"}],"count":"2"}}]}"#;
 
-/// The answer to it where another has claimed the register twice since.
-const LOST: &[u8] =
-    br#"{"header":{"cluster_id":"9038501614830948466","member_id":"8781887886688708772","revision":"42516","raft_term":"55"},"responses":[{"response_range":{"header":{"revision":"42516"},"kvs":[{"key":"Yy9oZWFk","create_revision":"42514","mod_revision":"42514","version":"1","value":"MSAxIDAgMCAwIDAgMCAwIDAgMCAwIDAgMCAwIDAgMCAwIDAg"},{"key":"Yy9vd25lcg==","create_revision":"42514","mod_revision":"42516","version":"2","value":"MSAyIDkg"}],"count":"2"}}]}"#;
+/// The answer to it where another has claimed the register since.
+const LOST: &str =
+    r#"{"header":{"cluster_id":"9038501614830948466","member_id":"8781887886688708772","revision":"42516","raft_term":"55"},"responses":[{"response_range":{"header":{"revision":"42516"},"kvs":[{"key":"Yy9oZWFk","create_revision":"42514","mod_revision":"42514","version":"1","value":"MSAxIDAgMCAwIDAgMCAwIDAgMCAwIDAgMCAwIDAgMCAwIDAg"},{"key":"Yy9vd25lcg==","create_revision":"42514","mod_revision":"42516","version":"2","value":"MSAyIDkg"}],"count":"2"}}]}"#;
 
 /// The answer to a transaction that asked for no range when its compares held.
-const PUT_ALONE: &[u8] =
-    br#"{"header":{"cluster_id":"9038501614830948466","member_id":"8781887886688708772","revision":"42514","raft_term":"55"},"succeeded":true,"responses":[{"response_put":{"header":{"revision":"42514"}}}]}"#;
+const PUT_ALONE: &str =
+    r#"{"header":{"cluster_id":"9038501614830948466","member_id":"8781887886688708772","revision":"42514","raft_term":"55"},"succeeded":true,"responses":[{"response_put":{"header":{"revision":"42514"}}}]}"#;
 
 /// Bodies of answers to a look that aren't read, and why.
-const FAULTS: &[(&[u8], AnswerFault)] = &[
-    (b"", AnswerFault::NotJson),
-    (b"{", AnswerFault::NotJson),
-    (b"{}\xff", AnswerFault::NotJson),
-    (b"{\"header\":\"\xff\"}", AnswerFault::NotJson),
+const FAULTS: &[(&str, AnswerFault)] = &[
+    ("", AnswerFault::NotJson),
+    ("{", AnswerFault::NotJson),
     (
-        b"CommonName of client sending a request against gateway will be ignored and not used as expected\n",
+        "CommonName of client sending a request against gateway will be ignored and not used as expected\n",
         AnswerFault::NotJson,
     ),
-    (b"[]", AnswerFault::BadShape),
+    ("[]", AnswerFault::BadShape),
     (
-        br#"{"error":"etcdserver: request timed out","message":"etcdserver: request timed out","code":14}"#,
+        r#"{"error":"etcdserver: request timed out","message":"etcdserver: request timed out","code":14}"#,
         AnswerFault::BadShape,
     ),
     (
-        br#"{"header":{"revision":"42513"}}"#,
+        r#"{"header":{"revision":"42513"}}"#,
         AnswerFault::BadShape,
     ),
     (
-        br#"{"header":{"cluster_id":1,"revision":"42513"}}"#,
+        r#"{"header":{"cluster_id":1,"revision":"42513"}}"#,
         AnswerFault::BadShape,
     ),
     (
-        br#"{"header":{"cluster_id":"18446744073709551616","revision":"1"}}"#,
+        r#"{"header":{"cluster_id":"18446744073709551616","revision":"1"}}"#,
         AnswerFault::BadNumber,
     ),
     (
-        br#"{"header":{"cluster_id":"1","revision":"-1"}}"#,
+        r#"{"header":{"cluster_id":"1","revision":"-1"}}"#,
         AnswerFault::BadNumber,
     ),
     (
-        br#"{"header":{"cluster_id":"1","revision":""}}"#,
+        r#"{"header":{"cluster_id":"1","revision":""}}"#,
         AnswerFault::BadNumber,
     ),
     // One key alone, no base64, another key, and another form of the owner: 1 01 7.
     (
-        br#"{"header":{"cluster_id":"1","revision":"1"},"kvs":[{"key":"Yy9oZWFk","value":"MSAxIDAgMCAwIDAgMCAwIDAgMCAwIDAgMCAwIDAgMCAwIDAg"}]}"#,
+        r#"{"header":{"cluster_id":"1","revision":"1"},"kvs":[{"key":"Yy9oZWFk","value":"MSAxIDAgMCAwIDAgMCAwIDAgMCAwIDAgMCAwIDAgMCAwIDAg"}]}"#,
         AnswerFault::BadShape,
     ),
     (
-        br#"{"header":{"cluster_id":"1","revision":"1"},"kvs":[{"key":"Yy9oZWFk","value":"MSAxIDAgMCAwIDAgMCAwIDAgMCAwIDAgMCAwIDAgMCAwIDAg"},{"key":"Yy9vd25lcg","value":"MSAxIDcg"}]}"#,
+        r#"{"header":{"cluster_id":"1","revision":"1"},"kvs":[{"key":"Yy9oZWFk","value":"MSAxIDAgMCAwIDAgMCAwIDAgMCAwIDAgMCAwIDAgMCAwIDAg"},{"key":"Yy9vd25lcg","value":"MSAxIDcg"}]}"#,
         AnswerFault::BadShape,
     ),
     (
-        br#"{"header":{"cluster_id":"1","revision":"1"},"kvs":[{"key":"Yy9oZWFkMg==","value":"MSAxIDAgMCAwIDAgMCAwIDAgMCAwIDAgMCAwIDAgMCAwIDAg"},{"key":"Yy9vd25lcg==","value":"MSAxIDcg"}]}"#,
+        r#"{"header":{"cluster_id":"1","revision":"1"},"kvs":[{"key":"Yy9oZWFkMg==","value":"MSAxIDAgMCAwIDAgMCAwIDAgMCAwIDAgMCAwIDAgMCAwIDAg"},{"key":"Yy9vd25lcg==","value":"MSAxIDcg"}]}"#,
         AnswerFault::BadShape,
     ),
     (
-        br#"{"header":{"cluster_id":"1","revision":"1"},"kvs":[{"key":"Yy9oZWFk","value":"MSAxIDAgMCAwIDAgMCAwIDAgMCAwIDAgMCAwIDAgMCAwIDAg"},{"key":"Yy9vd25lcg==","value":"MSAwMSA3IA=="}]}"#,
+        r#"{"header":{"cluster_id":"1","revision":"1"},"kvs":[{"key":"Yy9oZWFk","value":"MSAxIDAgMCAwIDAgMCAwIDAgMCAwIDAgMCAwIDAgMCAwIDAg"},{"key":"Yy9vd25lcg==","value":"MSAwMSA3IA=="}]}"#,
         AnswerFault::BadShape,
     ),
 ];
@@ -194,7 +192,7 @@ fn chunks_have_bytes(rt: HostRuntime) {
 #[test]
 fn looks_are_read(rt: HostRuntime) {
     let alloc = rt.alloc();
-    let missing = read_look(alloc, KEYS, MISSING).expect(&rt, "a look");
+    let missing = read_look(alloc, KEYS, MISSING.as_bytes()).expect(&rt, "a look");
     let unclaimed = Look {
         cluster: 9_038_501_614_830_948_466,
         revision: 42_513,
@@ -202,31 +200,33 @@ fn looks_are_read(rt: HostRuntime) {
         head: NO_HEAD,
     };
     assert!(rt; missing == unclaimed);
-    let claimed = read_look(alloc, KEYS, CLAIMED).expect(&rt, "a look");
+    let claimed = read_look(alloc, KEYS, CLAIMED.as_bytes()).expect(&rt, "a look");
     assert!(rt; claimed.owner == FIRST && claimed.head == FIRST_HEAD && claimed.revision == 42_514);
-    assert!(rt; is_bad_shape(read_look(alloc, Keys { prefix: "d" }, CLAIMED)));
+    assert!(rt; is_bad_shape(read_look(alloc, Keys { prefix: "d" }, CLAIMED.as_bytes())));
 }
 
 #[test]
 fn transactions_have_an_outcome(rt: HostRuntime) {
     let alloc = rt.alloc();
     let claim = first_claim(&rt);
-    let won = read_transaction(alloc, KEYS, &claim, WON).expect(&rt, "an answer");
+    let won = read_transaction(alloc, KEYS, &claim, WON.as_bytes()).expect(&rt, "an answer");
     assert!(rt; won.outcome == Outcome::Applied && won.look.owner == FIRST);
-    let again = read_transaction(alloc, KEYS, &claim, AGAIN).expect(&rt, "an answer");
+    let again = read_transaction(alloc, KEYS, &claim, AGAIN.as_bytes()).expect(&rt, "an answer");
     assert!(rt; again.outcome == Outcome::Applied && again.look == won.look);
-    let lost = read_transaction(alloc, KEYS, &claim, LOST).expect(&rt, "an answer");
+    let lost = read_transaction(alloc, KEYS, &claim, LOST.as_bytes()).expect(&rt, "an answer");
     assert!(rt; lost.outcome == Outcome::Overtaken && lost.look.revision == 42_516);
     assert!(rt; lost.look.owner == Owner { epoch: 2, nonce: 9 });
-    assert!(rt; is_bad_shape(read_transaction(alloc, KEYS, &claim, PUT_ALONE)));
+    assert!(rt; is_bad_shape(read_transaction(alloc, KEYS, &claim, PUT_ALONE.as_bytes())));
 }
 
 #[test]
 fn faults_are_named(rt: HostRuntime) {
     for (body, fault) in FAULTS {
-        match read_look(rt.alloc(), KEYS, body) {
+        match read_look(rt.alloc(), KEYS, body.as_bytes()) {
             Ok(_) => assert!(rt; false),
             Err(error) => assert!(rt; error == AnswerError::Fault(*fault)),
         }
     }
+    let no_text = read_look(rt.alloc(), KEYS, b"{}\xff");
+    assert!(rt; no_text == Err(AnswerError::Fault(AnswerFault::NotJson)));
 }
