@@ -43,8 +43,8 @@ number_of-parsed text r n parses is digits =
     number_of-yes text (is_number-from text found.0.0 digits found.0.1) ∙ ap done (sym found.1)
 
 -- none, or more than 64 bits have
-pub number_of-failed : {E : Type 0} (text : List ℕ) (r : Result ℕ E) (e : E) → ParsesUnsigned 64 10 text r → r ≡ Err e → are_digits text ≡ true → number_of text ≡ Err BadNumber
-number_of-failed text r e parses is digits =
+pub number_of-failed : {E : Type 0} {e : E} (text : List ℕ) (r : Result ℕ E) → ParsesUnsigned 64 10 text r → r ≡ Err e → are_digits text ≡ true → number_of text ≡ Err BadNumber
+number_of-failed {e = e} text r parses is digits =
     let fails : ((0 < length text) × (digits_value 10 text < 2 ^ 64)) → ⊥ =
     OkIff-at_err r ((0 < length text) × (digits_value 10 text < 2 ^ 64)) (digits_value 10 text) e (parse_digits own 64 text r parses digits) is in
     number_of-no text (false_from_ne_true (is_number text) (λ (all : is_number text ≡ true).

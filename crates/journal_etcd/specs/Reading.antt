@@ -1,6 +1,6 @@
 -- What is read of etcd's answers, from left to right, with the first fault that is met.
 use Rattle.std.specs.Prelude.{◌≡◌, ℕ, ◌+◌, ◌^◌, ◌==◌, ◌&&◌, nat_lt, Bool, false, List, codes, length, take, drop}
-use Rattle.std.specs.Prelude.{position, bytes_eq, if◌then◌else◌, Option, Some, None, option_and_then, is_some}
+use Rattle.std.specs.Prelude.{position, bytes_eq, if◌then◌else◌, Option, Some, None, option_and_then, is_some, unwrap_or}
 use Rattle.std.specs.Prelude.{Result, Ok, Err}
 use Rattle.std.specs.Char.{is_ascii_digit}
 use Rattle.std.specs.List.{list_all}
@@ -165,12 +165,8 @@ bytes_in name value = do
   bytes_of text
 
 -- a flag, which is left out where it is false
-abbrev pub is_set : Option Bool → Bool
-is_set None = false
-is_set (Some b) = b
-
 unfoldable pub flag_in : List ℕ → Json → Bool
-flag_in name value = is_set (option_and_then as_bool (get name value))
+flag_in name value = unwrap_or (option_and_then as_bool (get name value)) false
 
 -- ---- answers
 

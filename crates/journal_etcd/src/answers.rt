@@ -12,7 +12,7 @@ ghost use Rattle.journal_etcd.specs.Reading.{writes_of, last_part, range_in, tra
 use crate::fault::{AnswerError, AnswerFault};
 use crate::keys::{Keys, head_key, owner_key};
 use crate::members::{bytes_in, flag_in, item_at, member, number_in};
-use crate::reading::{read_head, read_owner};
+use crate::reading::{head_of, owner_of};
 use journal_register::{Answer, Head, Look, NO_HEAD, NOBODY, Outcome, Owner, Transaction};
 use json::{Error, Scratch, Value};
 use std::alloc::Global;
@@ -59,10 +59,11 @@ fn value_in(alloc: Global, pair: &Value<'_>, key: &[u8]) -> Result<Vec<u8>, Answ
     ensures { Gives (λ bytes. bytes.items) result (value_in key.now (value_view pair.now)) }
 {
     let found = bytes_in(alloc, pair, "key")?;
-    if found.as_slice() != key {
-        return Err(AnswerError::Fault(AnswerFault::BadShape));
+    if found.as_slice() == key {
+        bytes_in(alloc, pair, "value")
+    } else {
+        Err(AnswerError::Fault(AnswerFault::BadShape))
     }
-    bytes_in(alloc, pair, "value")
 }
 
 /// The register in the pairs of both of its keys.
@@ -78,8 +79,8 @@ fn both_in(
     let second = item_at(pairs, 1)?;
     let head = value_in(alloc, first, &head_key(alloc, keys)?)?;
     let owner = value_in(alloc, second, &owner_key(alloc, keys)?)?;
-    let register_owner = read_owner(alloc, &owner)?;
-    let register_head = read_head(alloc, &head)?;
+    let register_owner = owner_of(alloc, &owner)?;
+    let register_head = head_of(alloc, &head)?;
     Ok((register_owner, register_head))
 }
 

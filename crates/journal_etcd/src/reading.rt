@@ -95,30 +95,32 @@ fn head_at(text: &[u8]) -> Result<Head, AnswerError>
 
 /// The owner whose value these bytes are. What is read is written again and compared, so that a value has one form.
 #[tactic(auto, unfolding(crate::specs::Reading::owner_of))]
-fn owner_of(alloc: Global, value: &[u8]) -> Result<Owner, AnswerError>
+pub(crate) fn owner_of(alloc: Global, value: &[u8]) -> Result<Owner, AnswerError>
     ensures exact { Gives (λ owner. owner) result (owner_of value.now) }
     ensures found { IfOk result (λ owner. value.now ≡ owner_value owner) }
 {
     let owner = owner_at(value)?;
     let written = owner_value(alloc, owner)?;
-    if written.as_slice() != value {
-        return Err(AnswerError::Fault(AnswerFault::BadShape));
+    if written.as_slice() == value {
+        Ok(owner)
+    } else {
+        Err(AnswerError::Fault(AnswerFault::BadShape))
     }
-    Ok(owner)
 }
 
 /// The head whose value these bytes are.
 #[tactic(auto, unfolding(crate::specs::Reading::head_of))]
-fn head_of(alloc: Global, value: &[u8]) -> Result<Head, AnswerError>
+pub(crate) fn head_of(alloc: Global, value: &[u8]) -> Result<Head, AnswerError>
     ensures exact { Gives (λ head. head) result (head_of value.now) }
     ensures found { IfOk result (λ head. value.now ≡ head_value head) }
 {
     let head = head_at(value)?;
     let written = head_value(alloc, head)?;
-    if written.as_slice() != value {
-        return Err(AnswerError::Fault(AnswerFault::BadShape));
+    if written.as_slice() == value {
+        Ok(head)
+    } else {
+        Err(AnswerError::Fault(AnswerFault::BadShape))
     }
-    Ok(head)
 }
 
 /// The owner that a value of the owner's key is.
