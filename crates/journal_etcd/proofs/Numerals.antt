@@ -82,7 +82,7 @@ space_found n rest fits =
 
 behind_space : (digits rest : List ℕ) → drop (length digits + 1) (digits ++ 32 ∷ rest) ≡ rest
 behind_space digits rest =
-    ap (drop (length digits + 1)) (sym (append_assoc digits (32 ∷ []) rest)) ∙ drop_at (digits ++ 32 ∷ []) rest (length digits + 1) (length_push digits 32)
+    ap (λ (xs : List ℕ). drop (length digits + 1) xs) (sym (append_assoc digits (32 ∷ []) rest)) ∙ drop_at (digits ++ 32 ∷ []) rest (length digits + 1) (length_push digits 32)
 
 -- the number and what stands behind it
 pub number_again : (n : ℕ) (rest : List ℕ) → n < 2 ^ 64 → number_at (number_text n ++ rest) ≡ Ok (n, rest)

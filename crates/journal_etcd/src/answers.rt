@@ -70,10 +70,10 @@ fn value_in(alloc: Global, pair: &Value<'_>, key: &[u8]) -> Result<Vec<u8>, Answ
 #[tactic(auto, unfolding(crate::specs::Reading::both_in))]
 fn both_in(
     alloc: Global,
-    keys: Keys<'_>,
+    keys: &Keys<'_>,
     pairs: &Value<'_>,
 ) -> Result<(Owner, Head), AnswerError>
-    ensures { Gives (λ r. r) result (both_in keys.prefix.now (value_view pairs.now)) }
+    ensures { Gives (λ r. r) result (both_in keys.now.prefix.now (value_view pairs.now)) }
 {
     let first = item_at(pairs, 0)?;
     let second = item_at(pairs, 1)?;
@@ -88,10 +88,10 @@ fn both_in(
 #[tactic(auto, unfolding(crate::specs::Reading::register_in))]
 fn register_in(
     alloc: Global,
-    keys: Keys<'_>,
+    keys: &Keys<'_>,
     range: &Value<'_>,
 ) -> Result<(Owner, Head), AnswerError>
-    ensures { Gives (λ r. r) result (register_in keys.prefix.now (value_view range.now)) }
+    ensures { Gives (λ r. r) result (register_in keys.now.prefix.now (value_view range.now)) }
 {
     match range.get("kvs") {
         Some(pairs) => both_in(alloc, keys, pairs),
@@ -103,12 +103,12 @@ fn register_in(
 #[tactic(auto, unfolding(crate::specs::Reading::look_in))]
 fn look_in(
     alloc: Global,
-    keys: Keys<'_>,
+    keys: &Keys<'_>,
     answer: &Value<'_>,
     range: &Value<'_>,
 ) -> Result<Look, AnswerError>
     ensures { Gives (λ look. look) result
-        (look_in keys.prefix.now (value_view answer.now) (value_view range.now)) }
+        (look_in keys.now.prefix.now (value_view answer.now) (value_view range.now)) }
 {
     let header = member(answer, "header")?;
     let cluster = number_in(header, "cluster_id")?;
@@ -123,8 +123,8 @@ fn look_in(
 }
 
 #[tactic(auto, unfolding(crate::specs::Reading::look_of))]
-fn look_of(alloc: Global, keys: Keys<'_>, body: &[u8]) -> Result<Look, AnswerError>
-    ensures { Gives (λ look. look) result (look_of keys.prefix.now body.now) }
+fn look_of(alloc: Global, keys: &Keys<'_>, body: &[u8]) -> Result<Look, AnswerError>
+    ensures { Gives (λ look. look) result (look_of keys.now.prefix.now body.now) }
 {
     let mut scratch = Scratch::new(alloc);
     let answer = json_of(alloc, body, &mut scratch)?;
@@ -136,12 +136,12 @@ fn look_of(alloc: Global, keys: Keys<'_>, body: &[u8]) -> Result<Look, AnswerErr
 /// # Errors
 ///
 /// `NoMemory`, or the body's first fault.
-pub fn read_look(alloc: Global, keys: Keys<'_>, body: &[u8]) -> Result<Look, AnswerError>
+pub fn read_look(alloc: Global, keys: &Keys<'_>, body: &[u8]) -> Result<Look, AnswerError>
     // What says a look is read.
     ensures only { (answer : Json) (look : Looks) → IsUtf8 body.now → document body.now ≡ Some answer
-        → SaysLook keys.prefix.now answer answer look → Gives (λ l. l) result (Ok look) }
+        → SaysLook keys.now.prefix.now answer answer look → Gives (λ l. l) result (Ok look) }
     // What else is read, and which fault it is.
-    ensures exact { Gives (λ look. look) result (look_of keys.prefix.now body.now) }
+    ensures exact { Gives (λ look. look) result (look_of keys.now.prefix.now body.now) }
 {
     look_of(alloc, keys, body)
 }
@@ -186,12 +186,12 @@ fn range_in<'v, 'a>(
 #[tactic(auto, unfolding(crate::specs::Reading::transaction_in))]
 fn transaction_in(
     alloc: Global,
-    keys: Keys<'_>,
+    keys: &Keys<'_>,
     transaction: &Transaction,
     answer: &Value<'_>,
 ) -> Result<TransactionAnswer, AnswerError>
     ensures { Gives (λ read. read) result
-        (transaction_in keys.prefix.now transaction.now (value_view answer.now)) }
+        (transaction_in keys.now.prefix.now transaction.now (value_view answer.now)) }
 {
     let succeeded = flag_in(answer, "succeeded");
     let range = range_in(transaction, succeeded, answer)?;
@@ -205,11 +205,11 @@ fn transaction_in(
 #[tactic(auto, unfolding(crate::specs::Reading::transaction_of))]
 fn transaction_of(
     alloc: Global,
-    keys: Keys<'_>,
+    keys: &Keys<'_>,
     transaction: &Transaction,
     body: &[u8],
 ) -> Result<TransactionAnswer, AnswerError>
-    ensures { Gives (λ read. read) result (transaction_of keys.prefix.now transaction.now body.now) }
+    ensures { Gives (λ read. read) result (transaction_of keys.now.prefix.now transaction.now body.now) }
 {
     let mut scratch = Scratch::new(alloc);
     let answer = json_of(alloc, body, &mut scratch)?;
@@ -223,15 +223,15 @@ fn transaction_of(
 /// `NoMemory`, or the body's first fault: then nothing is known of the transaction (`Outcome::Unknown`).
 pub fn read_transaction(
     alloc: Global,
-    keys: Keys<'_>,
+    keys: &Keys<'_>,
     transaction: &Transaction,
     body: &[u8],
 ) -> Result<TransactionAnswer, AnswerError>
     // What says whether it succeeded, and the register behind it, is read, with the outcome of that.
     ensures only { (answer : Json) (read : TransactionAnswers) → IsUtf8 body.now → document body.now ≡ Some answer
-        → SaysTransaction keys.prefix.now transaction.now answer read → Gives (λ r. r) result (Ok read) }
+        → SaysTransaction keys.now.prefix.now transaction.now answer read → Gives (λ r. r) result (Ok read) }
     // What else is read, and which fault it is.
-    ensures exact { Gives (λ read. read) result (transaction_of keys.prefix.now transaction.now body.now) }
+    ensures exact { Gives (λ read. read) result (transaction_of keys.now.prefix.now transaction.now body.now) }
 {
     transaction_of(alloc, keys, transaction, body)
 }

@@ -22,8 +22,8 @@ pub struct Keys<'a> {
 }
 
 /// A prefix with a text behind it.
-fn key_with(alloc: Global, keys: Keys<'_>, last: &str) -> Result<Vec<u8>, AllocError>
-    ensures { IfOk result (λ key. key.items ≡ keys.prefix.now ++ last.now) }
+fn key_with(alloc: Global, keys: &Keys<'_>, last: &str) -> Result<Vec<u8>, AllocError>
+    ensures { IfOk result (λ key. key.items ≡ keys.now.prefix.now ++ last.now) }
 {
     let mut key = Vec::from_slice(alloc, keys.prefix.as_bytes())?;
     key.extend_from_slice(last.as_bytes())?;
@@ -32,24 +32,24 @@ fn key_with(alloc: Global, keys: Keys<'_>, last: &str) -> Result<Vec<u8>, AllocE
 
 /// The key of the head.
 #[tactic(auto, unfolding(crate::specs::Keys::head_key))]
-pub(crate) fn head_key(alloc: Global, keys: Keys<'_>) -> Result<Vec<u8>, AllocError>
-    ensures { IfOk result (λ key. key.items ≡ head_key keys.prefix.now) }
+pub(crate) fn head_key(alloc: Global, keys: &Keys<'_>) -> Result<Vec<u8>, AllocError>
+    ensures { IfOk result (λ key. key.items ≡ head_key keys.now.prefix.now) }
 {
     key_with(alloc, keys, "/head")
 }
 
 /// The key of the owner.
 #[tactic(auto, unfolding(crate::specs::Keys::owner_key))]
-pub(crate) fn owner_key(alloc: Global, keys: Keys<'_>) -> Result<Vec<u8>, AllocError>
-    ensures { IfOk result (λ key. key.items ≡ owner_key keys.prefix.now) }
+pub(crate) fn owner_key(alloc: Global, keys: &Keys<'_>) -> Result<Vec<u8>, AllocError>
+    ensures { IfOk result (λ key. key.items ≡ owner_key keys.now.prefix.now) }
 {
     key_with(alloc, keys, "/owner")
 }
 
 /// The first key behind those of head and owner.
 #[tactic(auto, unfolding(crate::specs::Keys::behind_owner))]
-pub(crate) fn behind_owner(alloc: Global, keys: Keys<'_>) -> Result<Vec<u8>, AllocError>
-    ensures { IfOk result (λ key. key.items ≡ behind_owner keys.prefix.now) }
+pub(crate) fn behind_owner(alloc: Global, keys: &Keys<'_>) -> Result<Vec<u8>, AllocError>
+    ensures { IfOk result (λ key. key.items ≡ behind_owner keys.now.prefix.now) }
 {
     key_with(alloc, keys, "/p")
 }
@@ -58,10 +58,10 @@ pub(crate) fn behind_owner(alloc: Global, keys: Keys<'_>) -> Result<Vec<u8>, All
 #[tactic(auto, unfolding(crate::specs::Keys::chunks_prefix))]
 fn chunks_prefix(
     alloc: Global,
-    keys: Keys<'_>,
+    keys: &Keys<'_>,
     generation: Generation,
 ) -> Result<Vec<u8>, AllocError>
-    ensures { IfOk result (λ key. key.items ≡ chunks_prefix keys.prefix.now generation) }
+    ensures { IfOk result (λ key. key.items ≡ chunks_prefix keys.now.prefix.now generation) }
 {
     let mut key = key_with(alloc, keys, "/c/")?;
     push_hex(&mut key, generation.epoch)?;
@@ -73,11 +73,11 @@ fn chunks_prefix(
 #[tactic(auto, unfolding(crate::specs::Keys::chunk_key))]
 pub(crate) fn chunk_key(
     alloc: Global,
-    keys: Keys<'_>,
+    keys: &Keys<'_>,
     generation: Generation,
     index: u64,
 ) -> Result<Vec<u8>, AllocError>
-    ensures { IfOk result (λ key. key.items ≡ chunk_key keys.prefix.now generation index) }
+    ensures { IfOk result (λ key. key.items ≡ chunk_key keys.now.prefix.now generation index) }
 {
     let mut key = chunks_prefix(alloc, keys, generation)?;
     key.extend_from_slice(b"/")?;
@@ -89,10 +89,10 @@ pub(crate) fn chunk_key(
 #[tactic(auto, unfolding(crate::specs::Keys::chunks_begin))]
 pub(crate) fn chunks_begin(
     alloc: Global,
-    keys: Keys<'_>,
+    keys: &Keys<'_>,
     generation: Generation,
 ) -> Result<Vec<u8>, AllocError>
-    ensures { IfOk result (λ key. key.items ≡ chunks_begin keys.prefix.now generation) }
+    ensures { IfOk result (λ key. key.items ≡ chunks_begin keys.now.prefix.now generation) }
 {
     let mut key = chunks_prefix(alloc, keys, generation)?;
     key.extend_from_slice(b"/")?;
@@ -103,10 +103,10 @@ pub(crate) fn chunks_begin(
 #[tactic(auto, unfolding(crate::specs::Keys::chunks_end))]
 pub(crate) fn chunks_end(
     alloc: Global,
-    keys: Keys<'_>,
+    keys: &Keys<'_>,
     generation: Generation,
 ) -> Result<Vec<u8>, AllocError>
-    ensures { IfOk result (λ key. key.items ≡ chunks_end keys.prefix.now generation) }
+    ensures { IfOk result (λ key. key.items ≡ chunks_end keys.now.prefix.now generation) }
 {
     let mut key = chunks_prefix(alloc, keys, generation)?;
     key.extend_from_slice(b"0")?;

@@ -83,10 +83,10 @@ fn push_missing_compare(text: &mut String, key: &[u8]) -> Result<(), AllocError>
 fn push_owner_compare(
     alloc: Global,
     text: &mut String,
-    keys: Keys<'_>,
+    keys: &Keys<'_>,
     owner: Owner,
 ) -> Result<(), AllocError>
-    ensures { OnOk result (string_bytes text.new ≡ string_bytes text.old ++ owner_compare keys.prefix.now owner) }
+    ensures { OnOk result (string_bytes text.new ≡ string_bytes text.old ++ owner_compare keys.now.prefix.now owner) }
 {
     let key = owner_key(alloc, keys)?;
     if owner.is(NOBODY) {
@@ -100,10 +100,10 @@ fn push_owner_compare(
 fn push_head_compare(
     alloc: Global,
     text: &mut String,
-    keys: Keys<'_>,
+    keys: &Keys<'_>,
     head: Head,
 ) -> Result<(), AllocError>
-    ensures { OnOk result (string_bytes text.new ≡ string_bytes text.old ++ head_compare keys.prefix.now head) }
+    ensures { OnOk result (string_bytes text.new ≡ string_bytes text.old ++ head_compare keys.now.prefix.now head) }
 {
     let key = head_key(alloc, keys)?;
     if head.is(NO_HEAD) {
@@ -118,12 +118,12 @@ fn push_head_compare(
 fn push_compares(
     alloc: Global,
     text: &mut String,
-    keys: Keys<'_>,
+    keys: &Keys<'_>,
     owner: Owner,
     head: Option<Head>,
 ) -> Result<(), AllocError>
     ensures { OnOk result (string_bytes text.new
-        ≡ string_bytes text.old ++ compares_json keys.prefix.now owner head) }
+        ≡ string_bytes text.old ++ compares_json keys.now.prefix.now owner head) }
 {
     push_owner_compare(alloc, text, keys, owner)?;
     match head {
@@ -151,10 +151,10 @@ fn push_put(text: &mut String, key: &[u8], value: &[u8]) -> Result<(), AllocErro
 fn push_owner_put(
     alloc: Global,
     text: &mut String,
-    keys: Keys<'_>,
+    keys: &Keys<'_>,
     owner: Option<Owner>,
 ) -> Result<(), AllocError>
-    ensures { OnOk result (string_bytes text.new ≡ string_bytes text.old ++ owner_put keys.prefix.now owner) }
+    ensures { OnOk result (string_bytes text.new ≡ string_bytes text.old ++ owner_put keys.now.prefix.now owner) }
 {
     match owner {
         Some(owner) => push_put(text, &owner_key(alloc, keys)?, &owner_value(alloc, owner)?),
@@ -166,10 +166,10 @@ fn push_owner_put(
 fn push_head_put(
     alloc: Global,
     text: &mut String,
-    keys: Keys<'_>,
+    keys: &Keys<'_>,
     head: Option<Head>,
 ) -> Result<(), AllocError>
-    ensures { OnOk result (string_bytes text.new ≡ string_bytes text.old ++ head_put keys.prefix.now head) }
+    ensures { OnOk result (string_bytes text.new ≡ string_bytes text.old ++ head_put keys.now.prefix.now head) }
 {
     match head {
         Some(head) => push_put(text, &head_key(alloc, keys)?, &head_value(alloc, head)?),
@@ -181,11 +181,11 @@ fn push_head_put(
 fn push_chunk_put(
     alloc: Global,
     text: &mut String,
-    keys: Keys<'_>,
+    keys: &Keys<'_>,
     key: Option<ChunkKey>,
     bytes: &[u8],
 ) -> Result<(), AllocError>
-    ensures { OnOk result (string_bytes text.new ≡ string_bytes text.old ++ chunk_put keys.prefix.now key bytes.now) }
+    ensures { OnOk result (string_bytes text.new ≡ string_bytes text.old ++ chunk_put keys.now.prefix.now key bytes.now) }
 {
     match key {
         Some(key) => push_put(
@@ -201,11 +201,11 @@ fn push_chunk_put(
 fn push_chunks_removal(
     alloc: Global,
     text: &mut String,
-    keys: Keys<'_>,
+    keys: &Keys<'_>,
     generation: Option<Generation>,
 ) -> Result<(), AllocError>
     ensures { OnOk result (string_bytes text.new
-        ≡ string_bytes text.old ++ chunks_removal keys.prefix.now generation) }
+        ≡ string_bytes text.old ++ chunks_removal keys.now.prefix.now generation) }
 {
     match generation {
         Some(generation) => {
@@ -224,12 +224,12 @@ fn push_chunks_removal(
 fn push_writes(
     alloc: Global,
     text: &mut String,
-    keys: Keys<'_>,
+    keys: &Keys<'_>,
     transaction: &Transaction,
     bytes: &[u8],
 ) -> Result<(), AllocError>
     ensures { OnOk result (string_bytes text.new
-        ≡ string_bytes text.old ++ writes_json keys.prefix.now transaction.now bytes.now) }
+        ≡ string_bytes text.old ++ writes_json keys.now.prefix.now transaction.now bytes.now) }
 {
     push_owner_put(alloc, text, keys, transaction.new_owner)?;
     push_head_put(alloc, text, keys, transaction.new_head)?;
@@ -239,8 +239,8 @@ fn push_writes(
 
 /// Appends the range over both keys of a register.
 #[tactic(auto, unfolding(crate::specs::Requests::register_range))]
-fn push_register_range(alloc: Global, text: &mut String, keys: Keys<'_>) -> Result<(), AllocError>
-    ensures { OnOk result (string_bytes text.new ≡ string_bytes text.old ++ register_range keys.prefix.now) }
+fn push_register_range(alloc: Global, text: &mut String, keys: &Keys<'_>) -> Result<(), AllocError>
+    ensures { OnOk result (string_bytes text.new ≡ string_bytes text.old ++ register_range keys.now.prefix.now) }
 {
     let first = head_key(alloc, keys)?;
     let behind = behind_owner(alloc, keys)?;
@@ -251,8 +251,8 @@ fn push_register_range(alloc: Global, text: &mut String, keys: Keys<'_>) -> Resu
 
 /// Appends the same as a part of a transaction.
 #[tactic(auto, unfolding(crate::specs::Requests::range_part))]
-fn push_range_part(alloc: Global, text: &mut String, keys: Keys<'_>) -> Result<(), AllocError>
-    ensures { OnOk result (string_bytes text.new ≡ string_bytes text.old ++ range_part keys.prefix.now) }
+fn push_range_part(alloc: Global, text: &mut String, keys: &Keys<'_>) -> Result<(), AllocError>
+    ensures { OnOk result (string_bytes text.new ≡ string_bytes text.old ++ range_part keys.now.prefix.now) }
 {
     text.push_str("{\"request_range\":")?;
     push_register_range(alloc, text, keys)?;
@@ -273,11 +273,11 @@ fn is_chunk(key: Option<ChunkKey>, count: usize) -> bool
 #[tactic(auto, unfolding(crate::specs::Requests::transaction_json))]
 fn transaction_text(
     alloc: Global,
-    keys: Keys<'_>,
+    keys: &Keys<'_>,
     transaction: &Transaction,
     bytes: &[u8],
 ) -> Result<String, AllocError>
-    ensures { IfOk result (λ text. string_bytes text ≡ transaction_json keys.prefix.now transaction.now bytes.now) }
+    ensures { IfOk result (λ text. string_bytes text ≡ transaction_json keys.now.prefix.now transaction.now bytes.now) }
 {
     let mut text = String::from_str(alloc, "{\"compare\":[")?;
     push_compares(alloc, &mut text, keys, transaction.owner, transaction.head)?;
@@ -298,12 +298,12 @@ fn transaction_text(
 /// `BadChunk`, `NoMemory`.
 pub fn transaction_request(
     alloc: Global,
-    keys: Keys<'_>,
+    keys: &Keys<'_>,
     transaction: &Transaction,
     bytes: &[u8],
 ) -> Result<String, RequestFault>
     ensures value { IfOk result (λ text. string_bytes text
-        ≡ transaction_json keys.prefix.now transaction.now bytes.now) }
+        ≡ transaction_json keys.now.prefix.now transaction.now bytes.now) }
     ensures chunk { IfOk result (λ text. is_chunk transaction.now.chunk (length bytes.now) ≡ true) }
     ensures refused { result ≡ Err RequestFault.BadChunk → is_chunk transaction.now.chunk (length bytes.now) ≡ false }
 {
@@ -317,8 +317,8 @@ pub fn transaction_request(
 }
 
 /// The body of a look's request: one range over both keys, which a majority of etcd's members answers for.
-pub fn look_request(alloc: Global, keys: Keys<'_>) -> Result<String, AllocError>
-    ensures { IfOk result (λ text. string_bytes text ≡ register_range keys.prefix.now) }
+pub fn look_request(alloc: Global, keys: &Keys<'_>) -> Result<String, AllocError>
+    ensures { IfOk result (λ text. string_bytes text ≡ register_range keys.now.prefix.now) }
 {
     let mut text = String::new(alloc);
     push_register_range(alloc, &mut text, keys)?;

@@ -130,7 +130,7 @@ fn values_are_numbers(rt: HostRuntime) {
 #[test]
 fn first_claim_compares_that_nothing_is_there(rt: HostRuntime) {
     let claim = first_claim(&rt);
-    let text = transaction_request(rt.alloc(), KEYS, &claim, b"").expect(&rt, "a request");
+    let text = transaction_request(rt.alloc(), &KEYS, &claim, b"").expect(&rt, "a request");
     let wanted =
         r#"{"compare":[{"key":"Yy9vd25lcg==","target":"CREATE","result":"EQUAL","create_revision":"0"},{"key":"Yy9oZWFk","target":"CREATE","result":"EQUAL","create_revision":"0"}],"success":[{"request_put":{"key":"Yy9vd25lcg==","value":"MSAxIDcg"}},{"request_put":{"key":"Yy9oZWFk","value":"MSAxIDAgMCAwIDAgMCAwIDAgMCAwIDAgMCAwIDAgMCAwIDAg"}},{"request_range":{"key":"Yy9oZWFk","range_end":"Yy9w"}}],"failure":[{"request_range":{"key":"Yy9oZWFk","range_end":"Yy9w"}}]}"#;
     assert!(rt; text.as_str() == wanted);
@@ -140,7 +140,7 @@ fn first_claim_compares_that_nothing_is_there(rt: HostRuntime) {
 #[test]
 fn append_puts_chunk_and_head(rt: HostRuntime) {
     let append = Transaction::append(FIRST, FIRST_HEAD, 0, ONE_END).expect(&rt, "an append");
-    let text = transaction_request(rt.alloc(), KEYS, &append, b"chunk").expect(&rt, "a request");
+    let text = transaction_request(rt.alloc(), &KEYS, &append, b"chunk").expect(&rt, "a request");
     let wanted =
         r#"{"compare":[{"key":"Yy9vd25lcg==","target":"VALUE","result":"EQUAL","value":"MSAxIDcg"},{"key":"Yy9oZWFk","target":"VALUE","result":"EQUAL","value":"MSAxIDAgMCAwIDAgMCAwIDAgMCAwIDAgMCAwIDAgMCAwIDAg"}],"success":[{"request_put":{"key":"Yy9oZWFk","value":"MSAxIDAgMSAzMTAgNSAyIDAgMCAwIDAgMCAwIDAgMCAwIDAgMCA="}},{"request_put":{"key":"Yy9jLzAwMDAwMDAwMDAwMDAwMDEwMDAwMDAwMDAwMDAwMDAwLzAwMDAwMDAwMDAwMDAwMDA=","value":"Y2h1bms="}},{"request_range":{"key":"Yy9oZWFk","range_end":"Yy9w"}}],"failure":[{"request_range":{"key":"Yy9oZWFk","range_end":"Yy9w"}}]}"#;
     assert!(rt; text.as_str() == wanted);
@@ -161,7 +161,7 @@ fn removal_has_all_chunks_of_a_generation(rt: HostRuntime) {
     };
     let removal = Transaction::remove(FIRST, switched, FIRST_HEAD.extent.generation);
     let removal = removal.expect(&rt, "a removal");
-    let text = transaction_request(rt.alloc(), KEYS, &removal, b"").expect(&rt, "a request");
+    let text = transaction_request(rt.alloc(), &KEYS, &removal, b"").expect(&rt, "a request");
     let part =
         r#""success":[{"request_delete_range":{"key":"Yy9jLzAwMDAwMDAwMDAwMDAwMDEwMDAwMDAwMDAwMDAwMDAwLw==","range_end":"Yy9jLzAwMDAwMDAwMDAwMDAwMDEwMDAwMDAwMDAwMDAwMDAwMA=="}},{"request_range""#;
     assert!(rt; text.as_str().contains(part));
@@ -169,7 +169,7 @@ fn removal_has_all_chunks_of_a_generation(rt: HostRuntime) {
 
 #[test]
 fn look_ranges_over_both_keys(rt: HostRuntime) {
-    let look = look_request(rt.alloc(), KEYS).expect(&rt, "a request");
+    let look = look_request(rt.alloc(), &KEYS).expect(&rt, "a request");
     assert!(rt; look.as_str() == r#"{"key":"Yy9oZWFk","range_end":"Yy9w"}"#);
     assert!(rt; GatewayPath::Range.as_str() == "/v3/kv/range");
 }
@@ -179,11 +179,11 @@ fn chunks_have_bytes(rt: HostRuntime) {
     let alloc = rt.alloc();
     let stage = Transaction::put_behind(FIRST, FIRST_HEAD, 0).expect(&rt, "a transaction");
     let claim = first_claim(&rt);
-    match transaction_request(alloc, KEYS, &stage, b"") {
+    match transaction_request(alloc, &KEYS, &stage, b"") {
         Ok(_) => assert!(rt; false),
         Err(fault) => assert!(rt; fault == RequestFault::BadChunk),
     }
-    match transaction_request(alloc, KEYS, &claim, b"chunk") {
+    match transaction_request(alloc, &KEYS, &claim, b"chunk") {
         Ok(_) => assert!(rt; false),
         Err(fault) => assert!(rt; fault == RequestFault::BadChunk),
     }
@@ -192,7 +192,7 @@ fn chunks_have_bytes(rt: HostRuntime) {
 #[test]
 fn looks_are_read(rt: HostRuntime) {
     let alloc = rt.alloc();
-    let missing = read_look(alloc, KEYS, MISSING.as_bytes()).expect(&rt, "a look");
+    let missing = read_look(alloc, &KEYS, MISSING.as_bytes()).expect(&rt, "a look");
     let unclaimed = Look {
         cluster: 9_038_501_614_830_948_466,
         revision: 42_513,
@@ -200,33 +200,33 @@ fn looks_are_read(rt: HostRuntime) {
         head: NO_HEAD,
     };
     assert!(rt; missing == unclaimed);
-    let claimed = read_look(alloc, KEYS, CLAIMED.as_bytes()).expect(&rt, "a look");
+    let claimed = read_look(alloc, &KEYS, CLAIMED.as_bytes()).expect(&rt, "a look");
     assert!(rt; claimed.owner == FIRST && claimed.head == FIRST_HEAD && claimed.revision == 42_514);
-    assert!(rt; is_bad_shape(read_look(alloc, Keys { prefix: "d" }, CLAIMED.as_bytes())));
+    assert!(rt; is_bad_shape(read_look(alloc, &Keys { prefix: "d" }, CLAIMED.as_bytes())));
 }
 
 #[test]
 fn transactions_have_an_outcome(rt: HostRuntime) {
     let alloc = rt.alloc();
     let claim = first_claim(&rt);
-    let won = read_transaction(alloc, KEYS, &claim, WON.as_bytes()).expect(&rt, "an answer");
+    let won = read_transaction(alloc, &KEYS, &claim, WON.as_bytes()).expect(&rt, "an answer");
     assert!(rt; won.outcome == Outcome::Applied && won.look.owner == FIRST);
-    let again = read_transaction(alloc, KEYS, &claim, AGAIN.as_bytes()).expect(&rt, "an answer");
+    let again = read_transaction(alloc, &KEYS, &claim, AGAIN.as_bytes()).expect(&rt, "an answer");
     assert!(rt; again.outcome == Outcome::Applied && again.look == won.look);
-    let lost = read_transaction(alloc, KEYS, &claim, LOST.as_bytes()).expect(&rt, "an answer");
+    let lost = read_transaction(alloc, &KEYS, &claim, LOST.as_bytes()).expect(&rt, "an answer");
     assert!(rt; lost.outcome == Outcome::Overtaken && lost.look.revision == 42_516);
     assert!(rt; lost.look.owner == Owner { epoch: 2, nonce: 9 });
-    assert!(rt; is_bad_shape(read_transaction(alloc, KEYS, &claim, PUT_ALONE.as_bytes())));
+    assert!(rt; is_bad_shape(read_transaction(alloc, &KEYS, &claim, PUT_ALONE.as_bytes())));
 }
 
 #[test]
 fn faults_are_named(rt: HostRuntime) {
     for (body, fault) in FAULTS {
-        match read_look(rt.alloc(), KEYS, body.as_bytes()) {
+        match read_look(rt.alloc(), &KEYS, body.as_bytes()) {
             Ok(_) => assert!(rt; false),
             Err(error) => assert!(rt; error == AnswerError::Fault(*fault)),
         }
     }
-    let no_text = read_look(rt.alloc(), KEYS, b"{}\xff");
+    let no_text = read_look(rt.alloc(), &KEYS, b"{}\xff");
     assert!(rt; no_text == Err(AnswerError::Fault(AnswerFault::NotJson)));
 }
