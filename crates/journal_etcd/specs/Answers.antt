@@ -57,8 +57,8 @@ pub record SaysLook (prefix : List ℕ) (answer range : Json) (look : Look) : Ty
   pub revision : HasNumber (codes "revision") header look.revision
   pub register : HasRegister prefix (get (codes "kvs") range) look.owner look.head
 
--- The answer to a transaction: whether it succeeded, and the register behind it, by a range that ends the answers to its
--- parts.
+-- The answer to a transaction: whether it succeeded, and the register behind it, by a range that ends the answers to
+-- its parts.
 pub record SaysTransaction (prefix : List ℕ) (t : Transaction) (answer : Json) (read : TransactionAnswer) : Type 0 where
   pub succeeded : Bool
   pub responses : Json

@@ -1,7 +1,7 @@
 -- What is read of etcd's answers, from left to right, with the first fault that is met.
 use Rattle.std.specs.Prelude.{◌≡◌, ℕ, ◌+◌, ◌^◌, ◌==◌, ◌&&◌, nat_lt, Bool, false, List, codes, length, take, drop}
-use Rattle.std.specs.Prelude.{position, bytes_eq, if◌then◌else◌, Option, Some, None, option_and_then, is_some, unwrap_or}
-use Rattle.std.specs.Prelude.{Result, Ok, Err}
+use Rattle.std.specs.Prelude.{position, bytes_eq, if◌then◌else◌, Option, Some, None, option_and_then, is_some}
+use Rattle.std.specs.Prelude.{unwrap_or, Result, Ok, Err}
 use Rattle.std.specs.Char.{is_ascii_digit}
 use Rattle.std.specs.List.{list_all}
 use Rattle.std.specs.Str.{is_utf8}

@@ -104,8 +104,8 @@ range_part prefix = codes "{\"request_range\":" ++ register_range prefix ++ code
 -- compares isn't confirmed by a majority of etcd's members.
 unfoldable pub transaction_json : List ℕ → Transaction → List ℕ → List ℕ
 transaction_json prefix t bytes =
-    codes "{\"compare\":[" ++ compares_json prefix t.owner t.head ++ codes "],\"success\":[" ++ writes_json prefix t bytes
-    ++ range_part prefix ++ codes "],\"failure\":[" ++ range_part prefix ++ codes "]}"
+    codes "{\"compare\":[" ++ compares_json prefix t.owner t.head ++ codes "],\"success\":["
+    ++ writes_json prefix t bytes ++ range_part prefix ++ codes "],\"failure\":[" ++ range_part prefix ++ codes "]}"
 
 -- whether so many bytes are a chunk's, where one is put, else none
 abbrev pub is_chunk : Option ChunkKey → ℕ → Bool

@@ -185,7 +185,8 @@ fn push_chunk_put(
     key: Option<ChunkKey>,
     bytes: &[u8],
 ) -> Result<(), AllocError>
-    ensures { OnOk result (string_bytes text.new ≡ string_bytes text.old ++ chunk_put keys.now.prefix.now key bytes.now) }
+    ensures { OnOk result (string_bytes text.new
+        ≡ string_bytes text.old ++ chunk_put keys.now.prefix.now key bytes.now) }
 {
     match key {
         Some(key) => push_put(
