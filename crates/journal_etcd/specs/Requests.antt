@@ -15,13 +15,13 @@ use Rattle.journal_register.specs.declared.transaction.Transaction.{Transaction}
 use Rattle.journal_etcd.specs.Keys.{head_key, owner_key, behind_owner, chunk_key, chunks_begin, chunks_end}
 use Rattle.journal_etcd.specs.Values.{owner_value, head_value}
 use Rattle.journal_etcd.specs.declared.requests.GatewayPath.{GatewayPath}
-use Rattle.journal_etcd.specs.declared.requests.GatewayPath.TheVariants.{Range, Txn}
+use Rattle.journal_etcd.specs.declared.requests.GatewayPath.TheVariants.{Range, Transaction as ToTransaction}
 use Rattle.journal_etcd.specs.declared.requests.TheConstants.{MOST_CHUNK}
 
 -- where a body is posted to
 abbrev pub path_text : GatewayPath → List ℕ
 path_text Range = codes "/v3/kv/range"
-path_text Txn = codes "/v3/kv/txn"
+path_text ToTransaction = codes "/v3/kv/txn"
 
 unfoldable pub base64 : List ℕ → List ℕ
 base64 bytes = encode_of standard bytes

@@ -21,7 +21,7 @@ pub enum GatewayPath {
     /// For keys in a range.
     Range,
     /// For a transaction.
-    Txn,
+    Transaction,
 }
 
 impl GatewayPath {
@@ -31,7 +31,7 @@ impl GatewayPath {
     {
         match self {
             GatewayPath::Range => "/v3/kv/range",
-            GatewayPath::Txn => "/v3/kv/txn",
+            GatewayPath::Transaction => "/v3/kv/txn",
         }
     }
 }

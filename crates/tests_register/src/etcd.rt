@@ -134,7 +134,7 @@ fn first_claim_compares_that_nothing_is_there(rt: HostRuntime) {
     let wanted =
         r#"{"compare":[{"key":"Yy9vd25lcg==","target":"CREATE","result":"EQUAL","create_revision":"0"},{"key":"Yy9oZWFk","target":"CREATE","result":"EQUAL","create_revision":"0"}],"success":[{"request_put":{"key":"Yy9vd25lcg==","value":"MSAxIDcg"}},{"request_put":{"key":"Yy9oZWFk","value":"MSAxIDAgMCAwIDAgMCAwIDAgMCAwIDAgMCAwIDAgMCAwIDAg"}},{"request_range":{"key":"Yy9oZWFk","range_end":"Yy9w"}}],"failure":[{"request_range":{"key":"Yy9oZWFk","range_end":"Yy9w"}}]}"#;
     assert!(rt; text.as_str() == wanted);
-    assert!(rt; GatewayPath::Txn.as_str() == "/v3/kv/txn");
+    assert!(rt; GatewayPath::Transaction.as_str() == "/v3/kv/txn");
 }
 
 #[test]
