@@ -54,8 +54,8 @@ number_of-failed {e = e} text r parses is digits =
 
 -- other bytes
 pub number_of-other : (text : List ℕ) → are_digits text ≡ false → number_of text ≡ Err BadNumber
-number_of-other text no =
-    number_of-no text (and_right (ltb 0 (length text)) (are_digits text && ltb (digits_value 10 text) (2 ^ 64)) (and_left (are_digits text) (ltb (digits_value 10 text) (2 ^ 64)) no))
+number_of-other text other =
+    number_of-no text (and_right (ltb 0 (length text)) (are_digits text && ltb (digits_value 10 text) (2 ^ 64)) (and_left (are_digits text) (ltb (digits_value 10 text) (2 ^ 64)) other))
 
 -- what was written
 pub number_of-decimal : (n : ℕ) → n < 2 ^ 64 → number_of (decimal n) ≡ Ok n

@@ -77,8 +77,8 @@ json_of-some body value utf8 is = cond-true (is_utf8 body) (json_if (document bo
 pub json_of-none : (body : List ℕ) → (IsUtf8 body → document body ≡ None) → json_of body ≡ Err NotJson
 unfolding json_of
 json_of-none body none = elim (cases_Bool (is_utf8 body)) [
-  | inl yes ↦ cond-true (is_utf8 body) (json_if (document body)) unread yes ∙ ap json_if (none (IsUtf8-from_is_utf8 body yes))
-  | inr no ↦ cond-false (is_utf8 body) (json_if (document body)) unread no
+  | inl valid ↦ cond-true (is_utf8 body) (json_if (document body)) unread valid ∙ ap json_if (none (IsUtf8-from_is_utf8 body valid))
+  | inr invalid ↦ cond-false (is_utf8 body) (json_if (document body)) unread invalid
 ]
 
 pub look_of-said : (prefix body : List ℕ) (answer : Json) (look : Look) → IsUtf8 body → document body ≡ Some answer → SaysLook prefix answer answer look → look_of prefix body ≡ Ok look

@@ -1,5 +1,5 @@
 -- A value that is read is the one that was written.
-use Rattle.std.proofs.Common.{◌≡◌, ℕ, ◌^◌, ◌<◌, List, [], ◌++◌, Result, Ok, refl, ap, ◌∙◌, append_assoc, arith}
+use Rattle.std.proofs.Common.{◌≡◌, ℕ, ◌^◌, ◌<◌, List, [], ◌++◌, Result, Ok, refl, sym, ap, ◌∙◌, append_assoc, arith}
 use Rattle.std.proofs.lemmas.List.{append-nil}
 use Rattle.std.proofs.lemmas.Slice.Eq.{bytes_eq-Decides}
 use Rattle.journal_file.specs.declared.log_end.LogEnd.{LogEnd}
@@ -46,14 +46,19 @@ version_fits = omega arith
 owner_read : (owner : Owner) → FitsOwner owner → owner_at (owner_value owner) ≡ Ok owner
 unfolding owner_at owner_value
 owner_read owner fits =
-    let ended : number_text VERSION ++ number_text owner.epoch ++ number_text owner.nonce ≡ number_text VERSION ++ (number_text owner.epoch ++ (number_text owner.nonce ++ [])) = rw (append-nil (number_text owner.nonce)) refl in
+    let ended : number_text VERSION ++ number_text owner.epoch ++ number_text owner.nonce ≡ number_text VERSION ++ (number_text owner.epoch ++ (number_text owner.nonce ++ [])) =
+    append_assoc (number_text VERSION) (number_text owner.epoch) (number_text owner.nonce)
+    ∙ ap (λ (xs : List ℕ). number_text VERSION ++ (number_text owner.epoch ++ xs)) (sym (append-nil (number_text owner.nonce))) in
     ap owner_at ended
     ∙ rw (number_again VERSION (number_text owner.epoch ++ (number_text owner.nonce ++ [])) version_fits, number_again owner.epoch (number_text owner.nonce ++ []) fits.epoch, number_again owner.nonce [] fits.nonce) refl
 
 head_read : (head : Head) → FitsHead head → head_at (head_value head) ≡ Ok head
 unfolding head_at head_value
 head_read head fits =
-    let ended : number_text VERSION ++ extent_text head.extent ++ number_text head.beat ++ switch_text head.switch ≡ number_text VERSION ++ (extent_text head.extent ++ (number_text head.beat ++ (switch_text head.switch ++ []))) = rw (append-nil (switch_text head.switch)) refl in
+    let ended : number_text VERSION ++ extent_text head.extent ++ number_text head.beat ++ switch_text head.switch ≡ number_text VERSION ++ (extent_text head.extent ++ (number_text head.beat ++ (switch_text head.switch ++ []))) =
+    append_assoc (number_text VERSION ++ extent_text head.extent) (number_text head.beat) (switch_text head.switch)
+    ∙ (append_assoc (number_text VERSION) (extent_text head.extent) (number_text head.beat ++ switch_text head.switch)
+    ∙ ap (λ (xs : List ℕ). number_text VERSION ++ (extent_text head.extent ++ (number_text head.beat ++ xs))) (sym (append-nil (switch_text head.switch)))) in
     ap head_at ended
     ∙ rw (number_again VERSION (extent_text head.extent ++ (number_text head.beat ++ (switch_text head.switch ++ []))) version_fits, extent_again head.extent (number_text head.beat ++ (switch_text head.switch ++ [])) fits.extent, number_again head.beat (switch_text head.switch ++ []) fits.beat, switch_again head.switch [] fits.switch) refl
 

@@ -209,8 +209,7 @@ abbrev pub json_if : Option Json → Result Json AnswerFault
 json_if None = Err NotJson
 json_if (Some value) = Ok value
 
--- the body is UTF-8 and one value (RFC 8259)
--- UTF-8, and one value (RFC 8259)
+-- a body is UTF-8, and one value (RFC 8259)
 unfoldable pub json_of : List ℕ → Result Json AnswerFault
 json_of body = if is_utf8 body then json_if (document body) else Err NotJson
 
@@ -251,4 +250,3 @@ unfoldable pub transaction_of : List ℕ → Transaction → List ℕ → Result
 transaction_of prefix t body = do
   answer ← json_of body
   transaction_in prefix t answer
-
