@@ -48,9 +48,9 @@ number_of-failed {e = e} text r parses is digits =
     let fails : ((0 < length text) × (digits_value 10 text < 2 ^ 64)) → ⊥ =
     OkIff-at_err r ((0 < length text) × (digits_value 10 text < 2 ^ 64)) (digits_value 10 text) e (parse_digits own 64 text r parses digits) is in
     number_of-no text (false_from_ne_true (is_number text) (λ (all : is_number text ≡ true).
-      let parts = and_parts (ltb 0 (length text)) (are_digits text && ltb (digits_value 10 text) (2 ^ 64)) all in
-      let last = and_parts (are_digits text) (ltb (digits_value 10 text) (2 ^ 64)) parts.1 in
-      fails (ltb-true 0 (length text) parts.0, ltb-true (digits_value 10 text) (2 ^ 64) last.1)))
+    let parts = and_parts (ltb 0 (length text)) (are_digits text && ltb (digits_value 10 text) (2 ^ 64)) all in
+    let last = and_parts (are_digits text) (ltb (digits_value 10 text) (2 ^ 64)) parts.1 in
+    fails (ltb-true 0 (length text) parts.0, ltb-true (digits_value 10 text) (2 ^ 64) last.1)))
 
 -- other bytes
 pub number_of-other : (text : List ℕ) → are_digits text ≡ false → number_of text ≡ Err BadNumber

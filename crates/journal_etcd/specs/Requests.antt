@@ -68,6 +68,10 @@ put_of key value =
     codes "{\"request_put\":{" ++ bytes_member (codes "key") key ++ codes "," ++ bytes_member (codes "value") value
     ++ codes "}},"
 
+-- all keys from one on, up to another, are removed
+unfoldable pub removal_of : List ℕ → List ℕ → List ℕ
+removal_of first behind = codes "{\"request_delete_range\":{" ++ range_members first behind ++ codes "}},"
+
 unfoldable pub owner_put : List ℕ → Option Owner → List ℕ
 owner_put prefix None = []
 owner_put prefix (Some owner) = put_of (owner_key prefix) (owner_value owner)
@@ -82,9 +86,7 @@ chunk_put prefix (Some key) bytes = put_of (chunk_key prefix key.generation key.
 
 unfoldable pub chunks_removal : List ℕ → Option Generation → List ℕ
 chunks_removal prefix None = []
-chunks_removal prefix (Some generation) =
-    codes "{\"request_delete_range\":{" ++ range_members (chunks_begin prefix generation) (chunks_end prefix generation)
-    ++ codes "}},"
+chunks_removal prefix (Some generation) = removal_of (chunks_begin prefix generation) (chunks_end prefix generation)
 
 -- all that a transaction puts and removes
 unfoldable pub writes_json : List ℕ → Transaction → List ℕ → List ℕ

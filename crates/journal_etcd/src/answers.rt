@@ -68,11 +68,7 @@ fn value_in(alloc: Global, pair: &Value<'_>, key: &[u8]) -> Result<Vec<u8>, Answ
 
 /// The register in the pairs of both of its keys.
 #[tactic(auto, unfolding(crate::specs::Reading::both_in))]
-fn both_in(
-    alloc: Global,
-    keys: &Keys<'_>,
-    pairs: &Value<'_>,
-) -> Result<(Owner, Head), AnswerError>
+fn both_in(alloc: Global, keys: &Keys<'_>, pairs: &Value<'_>) -> Result<(Owner, Head), AnswerError>
     ensures { Gives (λ r. r) result (both_in keys.now.prefix.now (value_view pairs.now)) }
 {
     let first = item_at(pairs, 0)?;
@@ -161,11 +157,7 @@ fn writes_of(transaction: &Transaction) -> usize
 fn last_part(transaction: &Transaction, succeeded: bool) -> usize
     ensures { result ≡ last_part transaction.now succeeded }
 {
-    if succeeded {
-        writes_of(transaction)
-    } else {
-        0
-    }
+    if succeeded { writes_of(transaction) } else { 0 }
 }
 
 /// The answer to the range over both keys in the answer to a transaction.

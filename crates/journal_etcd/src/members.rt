@@ -12,10 +12,7 @@ use std::alloc::Global;
 
 /// The member of an object with this name.
 #[tactic(auto, unfolding(crate::specs::Reading::member))]
-pub(crate) fn member<'v, 'a>(
-    value: &'v Value<'a>,
-    name: &str,
-) -> Result<&'v Value<'a>, AnswerError>
+pub(crate) fn member<'v, 'a>(value: &'v Value<'a>, name: &str) -> Result<&'v Value<'a>, AnswerError>
     ensures { Gives (λ v. value_view v.now) result (member name.now (value_view value.now)) }
 {
     match value.get(name) {
@@ -73,11 +70,7 @@ pub(crate) fn number_in(value: &Value<'_>, name: &str) -> Result<u64, AnswerErro
 
 /// The bytes that a member is.
 #[tactic(auto, unfolding(crate::specs::Reading::bytes_in))]
-pub(crate) fn bytes_in(
-    alloc: Global,
-    value: &Value<'_>,
-    name: &str,
-) -> Result<Vec<u8>, AnswerError>
+pub(crate) fn bytes_in(alloc: Global, value: &Value<'_>, name: &str) -> Result<Vec<u8>, AnswerError>
     ensures { Gives (λ bytes. bytes.items) result (bytes_in name.now (value_view value.now)) }
 {
     let found = member(value, name)?;

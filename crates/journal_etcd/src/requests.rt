@@ -1,9 +1,9 @@
 //! The bodies of requests to etcd's JSON gateway, and where they are posted to.
 ghost use Rattle.std.specs.Prelude.{◌≡◌, ◌++◌, true, false, Err, string_bytes, length, IfOk, OnOk};
 ghost use Rattle.journal_etcd.specs.Requests.{path_text, bytes_member, range_members, value_compare, missing_compare};
-ghost use Rattle.journal_etcd.specs.Requests.{owner_compare, head_compare, compares_json, put_of, owner_put, head_put};
-ghost use Rattle.journal_etcd.specs.Requests.{chunk_put, chunks_removal, writes_json, register_range, range_part};
-ghost use Rattle.journal_etcd.specs.Requests.{transaction_json, is_chunk};
+ghost use Rattle.journal_etcd.specs.Requests.{owner_compare, head_compare, compares_json, put_of, removal_of};
+ghost use Rattle.journal_etcd.specs.Requests.{owner_put, head_put, chunk_put, chunks_removal, writes_json};
+ghost use Rattle.journal_etcd.specs.Requests.{register_range, range_part, transaction_json, is_chunk};
 
 use crate::fault::RequestFault;
 use crate::keys::{Keys, behind_owner, chunk_key, chunks_begin, chunks_end, head_key, owner_key};
@@ -147,6 +147,16 @@ fn push_put(text: &mut String, key: &[u8], value: &[u8]) -> Result<(), AllocErro
     text.push_str("}},")
 }
 
+/// Appends the removal of a range of keys, and a comma.
+#[tactic(auto, unfolding(crate::specs::Requests::removal_of))]
+fn push_removal(text: &mut String, first: &[u8], behind: &[u8]) -> Result<(), AllocError>
+    ensures { OnOk result (string_bytes text.new ≡ string_bytes text.old ++ removal_of first.now behind.now) }
+{
+    text.push_str("{\"request_delete_range\":{")?;
+    push_range(text, first, behind)?;
+    text.push_str("}},")
+}
+
 #[tactic(auto, unfolding(crate::specs::Requests::owner_put))]
 fn push_owner_put(
     alloc: Global,
@@ -212,9 +222,7 @@ fn push_chunks_removal(
         Some(generation) => {
             let first = chunks_begin(alloc, keys, generation)?;
             let behind = chunks_end(alloc, keys, generation)?;
-            text.push_str("{\"request_delete_range\":{")?;
-            push_range(text, &first, &behind)?;
-            text.push_str("}},")
+            push_removal(text, &first, &behind)
         }
         None => Ok(()),
     }
