@@ -60,10 +60,7 @@ const FAULTS: &[(&str, AnswerFault)] = &[
         r#"{"error":"etcdserver: request timed out","message":"etcdserver: request timed out","code":14}"#,
         AnswerFault::BadShape,
     ),
-    (
-        r#"{"header":{"revision":"42513"}}"#,
-        AnswerFault::BadShape,
-    ),
+    (r#"{"header":{"revision":"42513"}}"#, AnswerFault::BadShape),
     (
         r#"{"header":{"cluster_id":1,"revision":"42513"}}"#,
         AnswerFault::BadShape,
@@ -119,8 +116,12 @@ fn values_are_numbers(rt: HostRuntime) {
     assert!(rt; head.as_slice() == b"1 1 0 0 0 0 0 0 0 0 0 0 0 0 0 0 0 0 ".as_slice());
     assert!(rt; read_owner(alloc, &owner) == Ok(FIRST));
     assert!(rt; read_head(alloc, &head) == Ok(FIRST_HEAD));
-    assert!(rt; is_bad_shape(read_owner(alloc, b"1 01 7 ")) && is_bad_shape(read_owner(alloc, b"1 1 7")));
-    assert!(rt; is_bad_shape(read_owner(alloc, b"2 1 7 ")) && is_bad_shape(read_owner(alloc, b"1 1 7 8 ")));
+    assert!(rt;
+        is_bad_shape(read_owner(alloc, b"1 01 7 ")) && is_bad_shape(read_owner(alloc, b"1 1 7"))
+    );
+    assert!(rt;
+        is_bad_shape(read_owner(alloc, b"2 1 7 ")) && is_bad_shape(read_owner(alloc, b"1 1 7 8 "))
+    );
     assert!(rt; is_bad_shape(read_head(alloc, &owner)));
     let bad = Err(AnswerError::Fault(AnswerFault::BadNumber));
     assert!(rt; read_owner(alloc, b"1 +1 7 ") == bad);
