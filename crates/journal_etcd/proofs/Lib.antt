@@ -1,0 +1,4 @@
+pub mod Numerals
+pub mod Spelled
+pub mod Said
+pub mod Appended

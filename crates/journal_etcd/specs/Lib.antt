@@ -1,0 +1,5 @@
+pub mod Values
+pub mod Keys
+pub mod Requests
+pub mod Reading
+pub mod Answers
