@@ -152,3 +152,26 @@ keeps_itself owner head a bytes len is keeps =
     let e : length bytes ≡ len = keeps.counted ∙ sym is in
     subst (λ b. Keeps owner head b a)
     (sym (take-length bytes) ∙ ap (λ (n : ℕ). take n bytes) e) keeps
+
+-- all that was read, where a look behind it shows the owner
+pub fetched : (owner : Owner) (head : Head) (is_own : Owner → Bool) (sends : Message → Bool) (a b c : Option Register)
+    (count : ℕ) (bytes : List ℕ)
+    → Between a b (λ k l. is_current owner head k ≡ true → Read owner head count bytes k l)
+    → Between b c (Goes is_own sends) → is_own owner ≡ true → AreSettled sends owner head → AreCurrent owner head a
+    → ((m : Register) → c ≡ Some m → m.owner ≡ owner) → count ≡ head.extent.chunks
+    → ((k : Register) → a ≡ Some k → Joins (k.chunk head.extent.generation) head.extent.chunks bytes)
+    × ((m : Register) → c ≡ Some m → Joins (m.chunk head.extent.generation) head.extent.chunks bytes)
+fetched owner head is_own sends a b c count bytes read goes mine settled current shown all = (
+  λ k e.
+      let l = known_behind a b (λ k l. is_current owner head k ≡ true → Read owner head count bytes k l) k read e in
+      let m = known_behind b c (Goes is_own sends) l.0 goes l.1 in
+      let both = read_all owner head is_own sends k l.0 m.0 count bytes m.2 mine settled (current k e)
+      (l.2 (current k e)) (shown m.0 m.1) in
+      subst (λ (n : ℕ). Joins (k.chunk head.extent.generation) n bytes) all both.0,
+  λ m e.
+      let l = known_before b c (Goes is_own sends) m goes e in
+      let k = known_before a b (λ k l. is_current owner head k ≡ true → Read owner head count bytes k l) l.0 read l.1 in
+      let both = read_all owner head is_own sends k.0 l.0 m count bytes l.2 mine settled (current k.0 k.1)
+      (k.2 (current k.0 k.1)) (shown m e) in
+      subst (λ (n : ℕ). Joins (m.chunk head.extent.generation) n bytes) all both.1,
+)

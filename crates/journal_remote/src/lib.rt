@@ -6,10 +6,12 @@ mod end;
 mod engine;
 mod fetch;
 mod group;
+mod memory_engine;
 mod remote_storage;
 mod send;
 mod tenure;
 
 pub use engine::Engine;
+pub use memory_engine::{Delivery, MemoryChunk, MemoryEngine};
 pub use remote_storage::RemoteStorage;
 pub use tenure::{MOST_CHUNK, Tenure};

@@ -15,7 +15,7 @@ returns-in-Applied-clause-head g c =
     let t = c.in-Some.transaction in
     let moved = moved_head c.args.tenure.head c.args.place c.args.end in
     let is = last_is c.args.tenure.owner c.args.tenure.head c.args.place c.args.end t (sym c.in-Some.ensures) in
-    some_head c.in-Some-2.next moved (sym c.in-Some-2.is ∙ ap (λ (z : Transaction). z.new_head) is)
+    some_head c.in-Some-new_head.next moved (sym c.in-Some-new_head.is ∙ ap (λ (z : Transaction). z.new_head) is)
 
 pub returns-in-Applied-clause-appended : goal.returns-in-Applied-clause-appended
 returns-in-Applied-clause-appended g c =
@@ -35,7 +35,7 @@ returns-in-Applied-clause-appended g c =
     let moved = moved_head head place end in
     let is = last_is owner head place end t (sym c.in-Some.ensures) in
     let moves : t.new_head ≡ Some moved = ap (λ (z : Transaction). z.new_head) is in
-    let next : c.in-Some-2.next ≡ moved = some_head c.in-Some-2.next moved (sym c.in-Some-2.is ∙ moves) in
+    let next : c.in-Some-new_head.next ≡ moved = some_head c.in-Some-new_head.next moved (sym c.in-Some-new_head.is ∙ moves) in
     let appends : Head → Register → Register → Type 0 = λ n l m. (k : Register) (done : List ℕ) → Lays owner head place done sends k l → Appended owner head n (done ++ bytes) k m in
     subst (λ (n : Head). Between a b (appends n)) (sym next)
     (between_with a b (Exchanges is_own more sent x.0) (appends moved) x.2
@@ -54,7 +54,7 @@ returns-in-Applied-clause-settled g c =
     let sent : Message = record { transaction = t; bytes = c.args.bytes.now } in
     let moved = moved_head head place end in
     let is = last_is owner head place end t (sym c.in-Some.ensures) in
-    let next : c.in-Some-2.next ≡ moved = some_head c.in-Some-2.next moved (sym c.in-Some-2.is ∙ ap (λ (z : Transaction). z.new_head) is) in
+    let next : c.in-Some-new_head.next ≡ moved = some_head c.in-Some-new_head.next moved (sym c.in-Some-new_head.is ∙ ap (λ (z : Transaction). z.new_head) is) in
     subst (λ (n : Head). AreSettled more owner n) (sym next)
     (settled_on owner head moved more (moved_later head place end)
     (no_later_on owner head place sends more sent (last_puts owner head place end t is) c.in-Applied.ensures.sent c.requires.no_later))

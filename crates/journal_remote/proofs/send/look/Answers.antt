@@ -1,9 +1,17 @@
 use Rattle.std.proofs.Common.{refl, ◌∙◌}
+use Rattle.journal_remote.specs.Passing.{Goes}
 use Rattle.journal_remote.proofs.Passing.{between_itself, goes_nowhere, same_sends, then_goes}
 use Rattle.journal_remote.proofs.send.look.Goals as goal
 
 pub tries-init : goal.tries-init
-tries-init g c = record { goes = between_itself _ _ (λ k. goes_nowhere _ _ k); sent = refl; own = refl }
+tries-init g c =
+    let is_own = g.E.Engine.is_own c.args.engine.now in
+    let sends = g.E.Engine.sends c.args.engine.now in
+    record {
+      goes = between_itself (g.E.Engine.register c.args.engine.now) (Goes is_own sends) (λ k. goes_nowhere is_own sends k);
+      sent = refl;
+      own = refl;
+    }
 
 pub tries-preserved : goal.tries-preserved
 tries-preserved g c =

@@ -1,12 +1,14 @@
 use Rattle.std.proofs.Common.{inl, inr, refl, ◌∙◌}
 use Rattle.journal_register.specs.declared.outcome.Answer.TheVariants.{Missing}
 use Rattle.journal_register.specs.Register.{Message}
+use Rattle.journal_remote.specs.Passing.{Goes}
 use Rattle.journal_remote.proofs.Passing.{between_itself, goes_nowhere, or_else, then_exchanges, then_silence, in_silence}
 use Rattle.journal_remote.proofs.send.send.Goals as goal
 
 pub tries-init : goal.tries-init
 tries-init g c = record {
-  goes = between_itself _ _ (λ k. goes_nowhere _ _ k);
+  goes = between_itself (g.E.Engine.register c.args.engine.now) (Goes (g.E.Engine.is_own c.args.engine.now) (g.E.Engine.sends c.args.engine.now))
+      (λ k. goes_nowhere (g.E.Engine.is_own c.args.engine.now) (g.E.Engine.sends c.args.engine.now) k);
   sent = λ m e. inr e;
   own = refl;
 }
