@@ -1,5 +1,5 @@
 -- What may become of a register while messages come of which each does nothing, or one thing.
-use Rattle.std.proofs.Common.{◌≡◌, ℕ, ◌+◌, ◌<◌, ◌&&◌, ◌==◌, arith, Bool, true, false, cond, List, [], ◌∷◌, inl, inr, refl}
+use Rattle.std.proofs.Common.{◌≡◌, ℕ, ◌+◌, ◌<◌, ◌&&◌, ◌==◌, arith, Bool, true, cond, List, [], ◌∷◌, inl, inr, refl}
 use Rattle.std.proofs.Common.{sym, ap, subst, ◌∙◌}
 use Rattle.std.specs.Prelude.{◌⊎◌, suc, nat_lt, Option, Some, None, unwrap_or, IfSome, IsSomeAnd}
 use Rattle.std.specs.List.{AllByRecursion}
@@ -19,7 +19,7 @@ use Rattle.journal_register.proofs.Orders.{before_tells, owner_itself, head_itse
 use Rattle.journal_register.proofs.Rising.{each_after, holds_owner, holds_head, IsLater, owner_step, owners}
 use Rattle.journal_remote.specs.Passing.{IsOwn, Goes}
 use Rattle.journal_remote.specs.Kept.{IsOf, compares_earlier, AreSettled, is_current}
-use Rattle.journal_remote.specs.Laid.{IsLaid, AreLaid}
+use Rattle.journal_remote.specs.Laid.{IsLaid}
 
 -- ---- registers that differ in their revision alone
 
@@ -45,8 +45,8 @@ writes_alike l k m a =
     let owner : Owner → Owner = λ o. unwrap_or m.transaction.new_owner o in
     let head : Head → Head = λ h. unwrap_or m.transaction.new_head h in
     let put : (Generation → ℕ → Option (List ℕ)) → Generation → ℕ → Option (List ℕ) = λ c generation index.
-        cond (is_at m.transaction.chunk generation index) (Some m.bytes)
-        (cond (is_of m.transaction.deleted generation) None (c generation index)) in
+    cond (is_at m.transaction.chunk generation index) (Some m.bytes)
+    (cond (is_of m.transaction.deleted generation) None (c generation index)) in
     (ap owner a.0, ap head a.1, ap put a.2)
 
 -- ---- who has come since

@@ -1,7 +1,7 @@
 -- What an owner knows of its register, from call to call.
-use Rattle.std.proofs.Common.{◌≡◌, ℕ, ◌+◌, ◌<◌, ◌&&◌, Bool, true, List, ◌++◌, length, take, inl, inr, refl, sym, ap, subst}
+use Rattle.std.proofs.Common.{◌≡◌, ℕ, ◌+◌, ◌<◌, ◌&&◌, Bool, true, List, ◌++◌, length, take, inl, inr, sym, ap, subst}
 use Rattle.std.proofs.Common.{◌∙◌, arith}
-use Rattle.std.specs.Prelude.{◌⊎◌, Option, Some, None}
+use Rattle.std.specs.Prelude.{◌⊎◌, Option, Some}
 use Rattle.std.proofs.Math.Seq.{take-length}
 use Rattle.std.proofs.lemmas.List.{length-append}
 use Rattle.std.proofs.lemmas.Bool.{and_parts}
@@ -19,8 +19,8 @@ use Rattle.journal_remote.specs.Kept.{AreSettled, is_current, Keeps}
 use Rattle.journal_remote.specs.Laid.{Appended}
 use Rattle.journal_remote.proofs.Passing.{known_before, known_behind}
 use Rattle.journal_remote.proofs.Joining.{joins_on}
-use Rattle.journal_remote.proofs.Carried.{Alike, alike_itself, alike_on, over_on, never_over, quiet_current, current_on}
-use Rattle.journal_remote.proofs.Carried.{current_tells, current_when, owner_tests, IsCurrent}
+use Rattle.journal_remote.proofs.Carried.{Alike, alike_on, over_on, never_over, quiet_current, current_on}
+use Rattle.journal_remote.proofs.Carried.{current_tells, IsCurrent}
 
 abbrev pub AreCurrent : Owner → Head → Option Register → Type 0
 AreCurrent owner head register = (k : Register) → register ≡ Some k → is_current owner head k ≡ true

@@ -1,5 +1,5 @@
 -- A group of chunks that is put behind the head.
-use Rattle.std.proofs.Common.{◌≡◌, ℕ, ◌+◌, ◌<◌, ◌&&◌, ◌==◌, suc, arith, Bool, true, false, cond, List, [], ◌++◌, append_assoc}
+use Rattle.std.proofs.Common.{◌≡◌, ℕ, ◌+◌, ◌<◌, ◌==◌, suc, arith, Bool, true, false, cond, List, [], ◌++◌, append_assoc}
 use Rattle.std.proofs.Common.{inl, inr, refl, sym, ap, subst, ◌∙◌}
 use Rattle.std.specs.Prelude.{◌⊎◌, nat_lt, Option, Some, None, option_map, unwrap_or, IsSomeAnd}
 use Rattle.std.proofs.lemmas.Bool.{and_parts, and_from, cond_both, cond-true, eqb-true, eq-eqb, true≢false}
@@ -20,7 +20,7 @@ use Rattle.journal_register.specs.Register.{Register, Message, holds, is_at, is_
 use Rattle.journal_register.proofs.Orders.{same_owner, same_head, generation_itself, before_when, before_on}
 use Rattle.journal_register.proofs.Rising.{holds_owner}
 use Rattle.journal_remote.specs.Joined.{Joins}
-use Rattle.journal_remote.specs.Passing.{Goes, Exchanges}
+use Rattle.journal_remote.specs.Passing.{Exchanges}
 use Rattle.journal_remote.specs.Kept.{IsOf, compares_earlier, AreSettled, is_current}
 use Rattle.journal_remote.specs.Laid.{IsLaid, AreLaid, Laid, Lays, CompareNoLater, moved_head, Appended}
 use Rattle.journal_remote.proofs.Joining.{joins_one, joins_same}

@@ -4,7 +4,6 @@ use Rattle.std.specs.Prelude.{◌⊎◌}
 use Rattle.journal_register.specs.declared.owner.Owner.{Owner}
 use Rattle.journal_register.specs.declared.outcome.Answer.{Answer}
 use Rattle.journal_register.specs.declared.outcome.Answer.TheVariants.{Succeeded, Failed, Missing}
-use Rattle.journal_register.specs.declared.outcome.Outcome.{Outcome}
 use Rattle.journal_register.specs.declared.outcome.Outcome.TheVariants.{Applied, Overtaken, Elsewhere, Unknown}
 use Rattle.journal_register.specs.Order.{is_owner}
 use Rattle.journal_register.specs.Outcomes.{shows, outcome_of, answer_of}

@@ -1,5 +1,5 @@
 -- What an owner knows of its register.
-use Rattle.std.specs.Prelude.{◌≡◌, ◌==◌, ◌&&◌, ◌||◌, nat_lt, ℕ, Bool, true, false, List, length, Option, Some, None}
+use Rattle.std.specs.Prelude.{◌≡◌, ◌&&◌, ◌||◌, nat_lt, ℕ, Bool, true, false, List, length, Option, Some, None}
 use Rattle.journal_register.specs.declared.owner.Owner.{Owner}
 use Rattle.journal_register.specs.declared.head.Head.{Head}
 use Rattle.journal_register.specs.declared.transaction.Transaction.{Transaction}

@@ -1,5 +1,5 @@
 -- A group of chunks that is put behind the head, before the head moves.
-use Rattle.std.specs.Prelude.{◌≡◌, ◌⊎◌, ◌<◌, ◌+◌, ℕ, Bool, true, List, ◌++◌, Option, Some, None, IsSomeAnd}
+use Rattle.std.specs.Prelude.{◌≡◌, ◌⊎◌, ◌<◌, ◌+◌, ℕ, Bool, true, List, ◌++◌, Some, None, IsSomeAnd}
 use Rattle.journal_file.specs.declared.log_end.LogEnd.{LogEnd}
 use Rattle.journal_register.specs.declared.owner.Owner.{Owner}
 use Rattle.journal_register.specs.declared.head.Head.{Head}

@@ -45,7 +45,12 @@ pub trait Engine: Drop {
     /// # Errors
     ///
     /// `Failed` where nothing that can be read came back, or the chunk doesn't stand; `NoMemory`.
-    fn read_chunks(&mut self, from: ChunkKey, most: u64, bytes: &mut Vec<u8>) -> Result<u64, StorageFault>
+    fn read_chunks(
+        &mut self,
+        from: ChunkKey,
+        most: u64,
+        bytes: &mut Vec<u8>,
+    ) -> Result<u64, StorageFault>
         ensures goes { Between (register self.old) (register self.new) (Goes (is_own self.old) (sends self.new)) }
         ensures some { IfOk result (λ count. 0 < count) }
         ensures most { IfOk result (λ count. count ≤ most) }

@@ -3,6 +3,7 @@ use crate::engine::Engine;
 use journal_file::StorageFault;
 use journal_register::{Answer, ChunkKey, Head, Look, Owner, Transaction};
 use std::alloc::{AllocError, Global};
+use std::mem;
 
 /// How a message is carried to the register in memory, and its answer back.
 #[derive(Clone, Copy, Debug, PartialEq, Eq)]
@@ -62,12 +63,7 @@ pub struct MemoryEngine {
 
 impl MemoryEngine {
     /// A register with this owner and this head, and no chunks.
-    pub fn new(
-        alloc: Global,
-        owner: Owner,
-        head: Head,
-        deliveries: Vec<Delivery>,
-    ) -> MemoryEngine {
+    pub fn new(alloc: Global, owner: Owner, head: Head, deliveries: Vec<Delivery>) -> MemoryEngine {
         MemoryEngine {
             alloc,
             revision: 1,
@@ -117,8 +113,8 @@ impl MemoryEngine {
 
     /// All that was held back comes, in its order.
     fn come_held(&mut self) -> Result<(), AllocError> {
-        while !self.held.is_empty() {
-            let message = self.held.remove(0);
+        let held = mem::replace(&mut self.held, Vec::new(self.alloc));
+        for message in &held {
             self.come(&message.transaction, &message.bytes)?;
         }
         Ok(())

@@ -64,7 +64,9 @@ fn appended_payloads_are_read(rt: HostRuntime) {
     assert!(rt; journal.append(1, &two) == Ok(2));
     let found = journal.read_from(0).expect(&rt, "payloads");
     assert!(rt; found.len() == 2);
-    assert!(rt; found[0].as_slice() == b"one".as_slice() && found[1].as_slice() == b"two!".as_slice());
+    assert!(rt;
+        found[0].as_slice() == b"one".as_slice() && found[1].as_slice() == b"two!".as_slice()
+    );
     let engine = journal.into_storage().into_engine();
     // 44 + 12 + 3, and 44 + 12 + 4 more
     expect_head(&rt, engine.head, 2, 119, 2);
@@ -147,7 +149,11 @@ fn overtaken_owner_syncs_nothing(rt: HostRuntime) {
 #[test]
 fn silence_is_no_answer(rt: HostRuntime) {
     let alloc = rt.alloc();
-    let lost = [Delivery::LostAnswer, Delivery::LostRequest, Delivery::LostRequest];
+    let lost = [
+        Delivery::LostAnswer,
+        Delivery::LostRequest,
+        Delivery::LostRequest,
+    ];
     let mut journal = opened(alloc, &lost).expect(&rt, "a journal");
     let one = texts(alloc, b"one").expect(&rt, "memory");
     assert!(rt; journal.append(0, &one) == Err(AppendFault::Unknown));

@@ -1,8 +1,7 @@
-use Rattle.std.proofs.Common.{◌≡◌, ℕ, ◌+◌, ◌≤◌, Bool, true, List, ◌++◌, inr, refl, sym, ap, subst, ◌∙◌, arith}
-use Rattle.std.specs.Prelude.{Some}
+use Rattle.std.proofs.Common.{◌≡◌, ℕ, ◌+◌, Bool, true, List, ◌++◌, inr, refl, sym, subst, ◌∙◌, arith}
 use Rattle.journal_register.specs.declared.owner.Owner.{Owner}
-use Rattle.journal_register.specs.Register.{Register, Message}
-use Rattle.journal_remote.specs.Joined.{Joins, JoinsFrom}
+use Rattle.journal_register.specs.Register.{Message}
+use Rattle.journal_remote.specs.Joined.{JoinsFrom}
 use Rattle.journal_remote.specs.Kept.{AreSettled, is_current}
 use Rattle.journal_remote.specs.Passing.{Between, Goes}
 use Rattle.journal_remote.proofs.Passing.{between_itself, between_on, between_with, goes_nowhere, same_sends, then_goes}

@@ -4,7 +4,7 @@ use Rattle.journal_register.specs.Register.{Register, Message}
 use Rattle.journal_remote.specs.Passing.{Exchanges}
 use Rattle.journal_remote.specs.Laid.{Lays}
 use Rattle.journal_remote.proofs.Passing.{between_with}
-use Rattle.journal_remote.proofs.Laying.{part_is, part_puts, lay_part, no_later_on}
+use Rattle.journal_remote.proofs.Laying.{part_is, part_puts, lay_part}
 use Rattle.journal_remote.proofs.group.put_behind.Goals as goal
 
 pub returns-in-Applied-clause-laid : goal.returns-in-Applied-clause-laid

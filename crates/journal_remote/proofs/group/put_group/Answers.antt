@@ -1,12 +1,11 @@
-use Rattle.std.proofs.Common.{◌≡◌, ℕ, ◌+◌, ◌≤◌, true, List, [], ◌++◌, take, drop, length, append_assoc, Bool, inl, refl, sym, ap, subst, ◌∙◌, arith}
+use Rattle.std.proofs.Common.{◌≡◌, ℕ, ◌+◌, true, List, [], ◌++◌, take, append_assoc, Bool, inl, refl, sym, ap, subst, ◌∙◌, arith}
 use Rattle.std.proofs.lemmas.List.{take-append-drop}
 use Rattle.std.proofs.lemmas.Result.{IfOk-weaker}
-use Rattle.journal_file.specs.declared.log_end.LogEnd.{LogEnd}
 use Rattle.journal_register.specs.declared.head.Head.{Head}
 use Rattle.journal_register.specs.declared.owner.Owner.{Owner}
-use Rattle.journal_register.specs.Register.{Register, Message}
+use Rattle.journal_register.specs.Register.{Register}
 use Rattle.journal_remote.specs.Kept.{is_current}
-use Rattle.journal_remote.specs.Laid.{Lays, Appended, moved_head}
+use Rattle.journal_remote.specs.Laid.{Lays, Appended}
 use Rattle.journal_remote.specs.Passing.{Between}
 use Rattle.journal_remote.proofs.Passing.{between_itself, between_on}
 use Rattle.journal_remote.proofs.Laying.{lays_none}
@@ -18,8 +17,12 @@ chunks-init g c =
     let head = c.args.tenure.head in
     let sends = g.E.Engine.sends c.args.engine.now in
     record {
-      laid = ([], refl, between_itself (g.E.Engine.register c.args.engine.now) (λ k m. is_current owner head k ≡ true → Lays owner head 0 [] sends k m)
-          (λ k current. lays_none owner head sends k c.requires.settled current));
+      laid = (
+        [],
+        refl,
+        between_itself (g.E.Engine.register c.args.engine.now) (λ k m. is_current owner head k ≡ true → Lays owner head 0 [] sends k m)
+            (λ k current. lays_none owner head sends k c.requires.settled current),
+      );
       no_later = λ m is of. inl (c.requires.settled m is of);
       own = refl;
       few = omega arith;

@@ -1,4 +1,4 @@
-use Rattle.std.proofs.Common.{inl, inr, refl, ◌∙◌}
+use Rattle.std.proofs.Common.{inr, refl, ◌∙◌}
 use Rattle.journal_register.specs.declared.outcome.Answer.TheVariants.{Missing}
 use Rattle.journal_register.specs.Register.{Message}
 use Rattle.journal_remote.specs.Passing.{Goes}

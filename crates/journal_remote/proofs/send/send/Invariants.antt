@@ -1,6 +1,6 @@
 use Rattle.std.proofs.Common.{◌≡◌, true}
 use Rattle.std.specs.Prelude.{◌⊎◌}
-use Rattle.journal_register.specs.Register.{Register, Message}
+use Rattle.journal_register.specs.Register.{Message}
 use Rattle.journal_remote.specs.Passing.{Between, Goes}
 use Rattle.journal_remote.proofs.send.send.Given as goal
 
