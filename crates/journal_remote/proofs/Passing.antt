@@ -32,7 +32,7 @@ between_with None (Some l) R S r f = absurd r
 between_with (Some k) None R S r f = absurd r
 between_with (Some k) (Some l) R S r f = f k l refl refl r
 
-none_is : (k : Register) → None ≡ Some k → ⊥
+pub none_is : (k : Register) → None ≡ Some k → ⊥
 none_is k e = cc
 
 some_is : (k l : Register) → Some k ≡ Some l → k ≡ l

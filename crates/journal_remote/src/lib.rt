@@ -1,5 +1,4 @@
-//! The storage of a journal in the chunks of a register that a cluster keeps, beside the one in a file. No program uses
-//! it yet.
+//! The storage of a journal in the chunks of a register, beside the one in a file. No program uses it yet.
 #![tactic(auto)]
 
 mod end;

@@ -93,6 +93,16 @@ impl MemoryEngine {
         Ok(())
     }
 
+    /// The bytes of a chunk; `None` where it doesn't stand.
+    fn chunk(&self, key: ChunkKey) -> Option<&[u8]> {
+        for chunk in &self.chunks {
+            if chunk.key == key {
+                return Some(&chunk.bytes);
+            }
+        }
+        None
+    }
+
     /// A message comes: it is done where all that it compares holds, and answered.
     fn come(&mut self, transaction: &Transaction, bytes: &[u8]) -> Result<Answer, AllocError> {
         let is_head = match transaction.head {
@@ -215,12 +225,10 @@ impl Engine for MemoryEngine {
         if most == 0 {
             return Err(StorageFault::Failed);
         }
-        for chunk in &self.chunks {
-            if chunk.key == from {
-                bytes.extend_from_slice(&chunk.bytes)?;
-                return Ok(1);
-            }
-        }
-        Err(StorageFault::Failed)
+        let Some(found) = self.chunk(from) else {
+            return Err(StorageFault::Failed);
+        };
+        bytes.extend_from_slice(found)?;
+        Ok(1)
     }
 }
