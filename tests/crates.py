@@ -30,8 +30,8 @@ LAYERS = (
         server_admission server_responses server_app server_state server_public server_http server_start server_settings server_page
         server_routes server_control server_durable server_past server_journal server_site"""),
     ("Command line", "`cli_`: what a shell asks for", """
-        cli_args cli_timezone cli_config cli_calendar cli_client cli_documents cli_report cli_vehicles cli_transfer cli_journal
-        cli_report_command"""),
+        cli_host cli_args cli_timezone cli_config cli_calendar cli_client cli_documents cli_report cli_vehicles cli_transfer
+        cli_journal cli_report_command"""),
     ("Programs", "what is run", """
         mds_replay mds_serve ruffletuff"""),
     ("Tests", "`tests_`: tests and worked examples", """

@@ -4,8 +4,10 @@ ghost use Rattle.cli_journal.specs.Compaction.{may_leave_remains, is_unbegun};
 
 use crate::configuration::{configuration_in, configuration_text};
 use crate::exit_cause::ExitCause;
+use crate::host::ThinHost;
 use crate::messages::report_cut;
 use cli_args::ThinOptions;
+use cli_host::{FileHost, MessageHost};
 use journal_compaction::{CompactFault, Counts, compact_folder};
 use journal_file::{FileStorage, HasLogEnd, Journal};
 use journal_folder::{
@@ -14,11 +16,8 @@ use journal_folder::{
 };
 use mds_text::Moment;
 use server_admission::{MachineClock, Moments};
-use std::alloc::AllocGlobal;
 use std::fs::{self, File, Files};
-use std::io::{Eprint, Print};
 use std::mem::drop;
-use std::sync::Wait;
 use std::time::Clock;
 
 /// Whether a fault may leave remains of a compacted journal next to the journal. Where another program has the folder,
@@ -30,14 +29,14 @@ fn may_leave_remains(fault: &CompactFault) -> bool
 }
 
 /// Removes what is left of a compacted journal next to the journal, if that can be done.
-pub fn clear<R: Files<File = File> + AllocGlobal>(rt: &R, folder: &str) {
+pub fn clear<R: FileHost>(rt: &R, folder: &str) {
     if let Ok(path) = format!(in rt.alloc(); "{folder}/journal.thinned") {
         let _ = fs::remove_file(rt, path.as_str());
     }
 }
 
 /// How many bytes a folder's journal has; `None` where that can't be found out.
-pub fn journal_length<R: Files<File = File> + AllocGlobal>(rt: &R, folder: &str) -> Option<u64> {
+pub fn journal_length<R: FileHost>(rt: &R, folder: &str) -> Option<u64> {
     let path = format!(in rt.alloc(); "{folder}/journal").ok()?;
     let metadata = fs::metadata(rt, path.as_str()).ok()?;
     Some(metadata.len())
@@ -48,7 +47,7 @@ pub fn journal_length<R: Files<File = File> + AllocGlobal>(rt: &R, folder: &str)
 /// # Errors
 ///
 /// `Folder` where that can't be found out.
-fn bytes_of<R: Files<File = File> + AllocGlobal>(rt: &R, folder: &str) -> Result<u64, ExitCause> {
+fn bytes_of<R: FileHost>(rt: &R, folder: &str) -> Result<u64, ExitCause> {
     match journal_length(rt, folder) {
         Some(length) => Ok(length),
         None => Err(ExitCause::Folder(FolderFault::Unusable)),
@@ -57,8 +56,8 @@ fn bytes_of<R: Files<File = File> + AllocGlobal>(rt: &R, folder: &str) -> Result
 
 /// The moment at which servers from both journals are asked: that of the machine's clock, or else the Unix epoch, since
 /// nothing that is asked depends on it.
-pub fn moment<R: Clock + Copy>(rt: &R) -> Moment {
-    match MachineClock(*rt).now() {
+pub fn moment<R: Clock>(rt: &R) -> Moment {
+    match MachineClock(rt).now() {
         Some(now) => now,
         None => Moment::new(0).unwrap(),
     }
@@ -85,10 +84,7 @@ pub fn check_archive_of<R: Files<File = File>>(
 /// # Errors
 ///
 /// `Folder` where something that is no file stands in its place, `NoMemory`.
-pub fn ensure_compactions<R: Folders + Eprint + AllocGlobal>(
-    rt: &R,
-    folder: &str,
-) -> Result<(), ExitCause> {
+pub fn ensure_compactions<R: Folders + MessageHost>(rt: &R, folder: &str) -> Result<(), ExitCause> {
     match open_compactions(rt, rt.alloc(), folder) {
         Ok(RecordedCompactions::Whole | RecordedCompactions::Missing) => {}
         Ok(RecordedCompactions::Damaged) => {
@@ -122,10 +118,7 @@ fn is_unbegun<L: HasLogEnd>(log: &L) -> bool
 ///
 /// `Folder` where another program has the folder, the journal is damaged, or what is to be cut can't be kept;
 /// `NoMemory`.
-fn cut_and_report<R: Folders + Files<File = File> + Eprint + AllocGlobal>(
-    rt: &R,
-    folder: &str,
-) -> Result<bool, ExitCause> {
+fn cut_and_report<R: ThinHost>(rt: &R, folder: &str) -> Result<bool, ExitCause> {
     let Folder {
         lock: _lock,
         journal,
@@ -149,7 +142,7 @@ fn cut_and_report<R: Folders + Files<File = File> + Eprint + AllocGlobal>(
 /// # Errors
 ///
 /// As `ExitCause::from` says.
-fn compact_or_clear<R: Wait + Folders + Files<File = File> + Clock + AllocGlobal + Copy>(
+fn compact_or_clear<R: ThinHost>(
     rt: &R,
     asked: &ThinOptions<'_>,
     text: &[u8],
@@ -175,7 +168,7 @@ fn compact_or_clear<R: Wait + Folders + Files<File = File> + Clock + AllocGlobal
 /// # Errors
 ///
 /// As `compact_or_clear`.
-fn compact_records<R: Wait + Folders + Files<File = File> + Clock + AllocGlobal + Copy>(
+fn compact_records<R: ThinHost>(
     rt: &R,
     asked: &ThinOptions<'_>,
     text: &[u8],
@@ -203,10 +196,7 @@ fn compact_records<R: Wait + Folders + Files<File = File> + Clock + AllocGlobal 
 /// `Refused` where the configuration doesn't fit it; `NotThinned` where the compacted one can't be written, or the
 /// compaction can't be recorded;
 /// `Differs`; `NoMemory`. The journal's records stay as they were. `NotPrinted` where it is compacted.
-pub fn compact<R>(rt: &R, asked: &ThinOptions<'_>) -> Result<(), ExitCause>
-where
-    R: Wait + Folders + Files<File = File> + Clock + Print + Eprint + AllocGlobal + Copy,
-{
+pub fn compact<R: ThinHost>(rt: &R, asked: &ThinOptions<'_>) -> Result<(), ExitCause> {
     let alloc = rt.alloc();
     let text = configuration_text(rt, alloc, asked.config)?;
     drop(configuration_in(alloc, &text)?);

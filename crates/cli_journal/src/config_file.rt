@@ -7,11 +7,12 @@ ghost use Rattle.mds_script.specs.declared.gather.TheConstants.{LINE_LIMIT};
 use crate::configuration::{check_length, text_in};
 use crate::exit_cause::ExitCause;
 use cli_config::{ConfigFinding, FindingKind, ResolvedZone, review, with_zone, zone_name_in};
+use cli_host::{FileHost, MessageHost};
 use cli_timezone::{ZoneFileFault, ZoneName, rule_in, zone_message};
 use mds_config_error::Detail;
-use std::alloc::{AllocError, AllocGlobal, Global};
+use std::alloc::{AllocError, Global};
 use std::fs::{File, Files};
-use std::io::{Eprint, Read};
+use std::io::Read;
 
 /// The most bytes of a zone's file that are read.
 const MOST_OF_ZONE: u64 = 1_048_576;
@@ -110,10 +111,7 @@ impl ConfigFile {
     /// # Errors
     ///
     /// `Misconfigured` where it can't be read or is longer than a line of a script may be, `NoMemory`.
-    pub fn read<R: Files<File = File> + AllocGlobal>(
-        rt: &R,
-        path: &str,
-    ) -> Result<ConfigFile, ExitCause> {
+    pub fn read<R: FileHost>(rt: &R, path: &str) -> Result<ConfigFile, ExitCause> {
         let alloc = rt.alloc();
         let text = match File::open(rt, path) {
             Ok(file) => text_in(alloc, file)?,
@@ -162,7 +160,7 @@ impl ConfigFile {
     }
 
     /// Reports on standard error by which rule the zone goes, if it goes by a name.
-    fn report_zone<R: Eprint + AllocGlobal>(&self, rt: &R) -> Result<(), AllocError> {
+    fn report_zone<R: MessageHost>(&self, rt: &R) -> Result<(), AllocError> {
         if let (Some(name), ResolvedZone::Rule(rule)) = (&self.zone, &self.zoned) {
             let told = zone_message(rt.alloc(), name, rule)?;
             let _ = eprintln!(rt; "ruffletuff: {told}");
@@ -178,7 +176,7 @@ impl ConfigFile {
     ///
     /// `NoOversight` where the value of a member `oversight` is none of its texts, `NoPage` where a part of the member
     /// `page` is wrong, `NoMemory`.
-    pub fn report_findings<R: Eprint + AllocGlobal>(
+    pub fn report_findings<R: MessageHost>(
         &self,
         rt: &R,
         path: &str,

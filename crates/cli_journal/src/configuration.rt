@@ -6,21 +6,22 @@ ghost use Rattle.server_app.specs.OperatorNames.{badges_view, read_badges};
 
 use crate::config_file::ConfigFile;
 use crate::exit_cause::ExitCause;
+use cli_host::{ConfigHost, FileHost};
 use mds_config_error::Detail;
 use mds_request::{Config, ConfigFault};
 use mds_script::LINE_LIMIT;
 use mds_text::TextFault;
 use server_app::OperatorNames;
-use std::alloc::{AllocGlobal, Global};
-use std::fs::{File, Files};
-use std::io::{Eprint, ErrorKind, Read};
+use std::alloc::Global;
+use std::fs::File;
+use std::io::{ErrorKind, Read};
 
 /// Reads a text that is at most as long as a configuration may be.
 ///
 /// # Errors
 ///
 /// `Misconfigured` where it can't be read or is longer than a line of a script may be, `NoMemory`.
-pub fn text_in<S: Read + Drop>(alloc: Global, source: S) -> Result<Vec<u8>, ExitCause>
+pub fn text_in(alloc: Global, source: File) -> Result<Vec<u8>, ExitCause>
     ensures { IfOk result (λ text. length text.items ≤ LINE_LIMIT) }
 {
     let mut text = Vec::new(alloc);
@@ -53,7 +54,7 @@ pub fn check_length(text: Vec<u8>) -> Result<Vec<u8>, ExitCause>
 /// # Errors
 ///
 /// `Misconfigured` where it can't be read or is longer than a line of a script may be, `NoMemory`.
-pub fn configuration_text<R: Files<File = File> + AllocGlobal>(
+pub fn configuration_text<R: FileHost>(
     rt: &R,
     alloc: Global,
     path: &str,
@@ -70,7 +71,7 @@ pub fn configuration_text<R: Files<File = File> + AllocGlobal>(
 ///
 /// `Misconfigured` where it can't be read or is longer than a line of a script may be, `NoOversight` where the value of
 /// a member `oversight` is none of its texts, `NoPage` where a part of the member `page` is wrong, `NoMemory`.
-pub fn read_text_and_report<R: Files<File = File> + Eprint + AllocGlobal>(
+pub fn read_text_and_report<R: ConfigHost>(
     rt: &R,
     alloc: Global,
     path: &str,

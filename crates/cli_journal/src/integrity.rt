@@ -5,13 +5,12 @@ ghost use Rattle.journal_folder.specs.Damages.{damage_of};
 ghost use Rattle.cli_journal.specs.Checks.{end_of, refused_for};
 
 use crate::exit_cause::ExitCause;
+use crate::host::ReadHost;
 use crate::script::behind_head;
 use journal_entry::read_head;
 use journal_file::JournalEnding as Ends;
 use journal_folder::{FolderFault, Survey, damage_of, entries_in, journal_bytes, survey_of};
-use std::alloc::{AllocGlobal, Global};
-use std::fs::{File, Files};
-use std::io::Print;
+use std::alloc::Global;
 use std::mem::drop;
 
 /// The end of a journal, in words.
@@ -98,10 +97,7 @@ fn check_readable(alloc: Global, texts: &[Vec<u8>]) -> Result<(), ExitCause> {
 ///
 /// `Folder` where the journal can't be read, or where it is damaged, no journal, of another version, or followed by
 /// bytes that nothing explains; `NoMemory`. `NotPrinted` where nothing is wrong with it.
-pub fn check<R: Files<File = File> + Print + AllocGlobal>(
-    rt: &R,
-    path: &str,
-) -> Result<(), ExitCause> {
+pub fn check<R: ReadHost>(rt: &R, path: &str) -> Result<(), ExitCause> {
     let bytes = journal_bytes(rt, rt.alloc(), path)?;
     let Survey {
         texts,

@@ -7,12 +7,11 @@ use crate::exit_cause::ExitCause;
 use crate::operator_words::{report_name, report_operators};
 use crate::report_fault::ReportFault;
 use cli_args::{CliCommand, usage_of};
+use cli_host::{ConfigHost, MessageHost};
 use journal_entry::Unfit;
 use journal_file::CutTail;
 use journal_folder::FolderFault;
 use journal_recovery::{Cause, Fault};
-use std::alloc::AllocGlobal;
-use std::fs::{File, Files};
 use std::io::Eprint;
 
 /// The file of the configuration.
@@ -127,11 +126,7 @@ fn place_in<'a>(asked: &CliCommand<'a>, ending: &ExitCause) -> Option<&'a str>
 }
 
 /// Reports what went wrong, and where.
-pub fn report_exit<R: Files<File = File> + Eprint + AllocGlobal>(
-    rt: &R,
-    asked: &CliCommand<'_>,
-    ending: &ExitCause,
-) {
+pub fn report_exit<R: ConfigHost>(rt: &R, asked: &CliCommand<'_>, ending: &ExitCause) {
     let message = ending.message();
     let _ = match place_in(asked, ending) {
         Some(place) => eprintln!(rt; "{message}: {place}"),
@@ -142,11 +137,7 @@ pub fn report_exit<R: Files<File = File> + Eprint + AllocGlobal>(
 
 /// Reports that the arguments are wrong, and prints how the command is called that they begin. Where an operator is given by
 /// another word than an identifier, the configuration's operators are reported.
-pub fn report_usage<R: Files<File = File> + Eprint + AllocGlobal>(
-    rt: &R,
-    words: &[String],
-    ending: &ExitCause,
-) {
+pub fn report_usage<R: ConfigHost>(rt: &R, words: &[String], ending: &ExitCause) {
     let message = ending.message();
     let usage = usage_of(words);
     let _ = eprintln!(rt; "{message}");
@@ -164,11 +155,7 @@ pub fn report_cut<R: Eprint>(rt: &R, cut: Option<CutTail>) {
 }
 
 /// Reports the details of a fault, where there are any.
-fn explain<R: Files<File = File> + Eprint + AllocGlobal>(
-    rt: &R,
-    asked: &CliCommand<'_>,
-    ending: &ExitCause,
-) {
+fn explain<R: ConfigHost>(rt: &R, asked: &CliCommand<'_>, ending: &ExitCause) {
     match ending {
         ExitCause::Misconfigured(detail) => {
             let _ = eprintln!(rt; "{detail}");
@@ -190,7 +177,7 @@ fn explain<R: Files<File = File> + Eprint + AllocGlobal>(
 }
 
 /// Reports what is wrong with a folder's journal.
-fn explain_folder<R: Eprint + AllocGlobal>(rt: &R, fault: &FolderFault) {
+fn explain_folder<R: MessageHost>(rt: &R, fault: &FolderFault) {
     match fault {
         FolderFault::Damaged(damage) => {
             let _ = eprintln!(rt; "{damage}");
@@ -202,11 +189,7 @@ fn explain_folder<R: Eprint + AllocGlobal>(rt: &R, fault: &FolderFault) {
 
 /// Reports the operator that no report can be about, with those that the configuration has, or the file that the report's
 /// folder has already.
-fn explain_report<R: Files<File = File> + Eprint + AllocGlobal>(
-    rt: &R,
-    asked: &CliCommand<'_>,
-    fault: &ReportFault,
-) {
+fn explain_report<R: ConfigHost>(rt: &R, asked: &CliCommand<'_>, fault: &ReportFault) {
     match fault {
         ReportFault::NoOperator(id) => {
             if let Ok(id) = id.print(rt.alloc()) {
@@ -225,7 +208,7 @@ fn explain_report<R: Files<File = File> + Eprint + AllocGlobal>(
 }
 
 /// Reports the operator that a configuration lacks, or whose limit in it is too low.
-fn explain_unfit<R: Eprint + AllocGlobal>(rt: &R, unfit: &Unfit) {
+fn explain_unfit<R: MessageHost>(rt: &R, unfit: &Unfit) {
     let (id, flaw) = match unfit {
         Unfit::Missing(id) => (id, "has entries in it and isn't in the configuration"),
         Unfit::LowLimit(id) => (id, "has held more vehicles than its limit allows"),

@@ -3,11 +3,9 @@ ghost use Rattle.std.specs.Prelude.{◌≡◌, map, option_map, string_bytes};
 ghost use Rattle.cli_journal.specs.OperatorWords.{configuration_named, is_name, operator_named};
 
 use crate::configuration::{configuration_text, operator_names_in};
+use cli_host::{ConfigHost, MessageHost};
 use mds_text::Id;
 use server_app::OperatorName;
-use std::alloc::AllocGlobal;
-use std::fs::{File, Files};
-use std::io::Eprint;
 
 /// Whether an argument behind another one is no identifier, where one is to stand.
 fn is_name(option: &str, value: &str) -> bool
@@ -51,7 +49,7 @@ fn configuration_named(words: &[String]) -> Option<&str>
 }
 
 /// Reports an operator's identifier and name.
-fn report_operator<R: Eprint + AllocGlobal>(rt: &R, operator: &OperatorName) {
+fn report_operator<R: MessageHost>(rt: &R, operator: &OperatorName) {
     let Ok(id) = operator.id.print(rt.alloc()) else {
         return;
     };
@@ -62,7 +60,7 @@ fn report_operator<R: Eprint + AllocGlobal>(rt: &R, operator: &OperatorName) {
 }
 
 /// Reports the operators of the configuration in a file; nothing where that can't be read, or is none.
-pub(crate) fn report_operators<R: Files<File = File> + Eprint + AllocGlobal>(rt: &R, path: &str) {
+pub(crate) fn report_operators<R: ConfigHost>(rt: &R, path: &str) {
     let alloc = rt.alloc();
     let Ok(text) = configuration_text(rt, alloc, path) else {
         return;
@@ -77,7 +75,7 @@ pub(crate) fn report_operators<R: Files<File = File> + Eprint + AllocGlobal>(rt:
 }
 
 /// Reports an argument that is no identifier where one of an operator is to stand, and which ones the configuration has.
-pub(crate) fn report_name<R: Files<File = File> + Eprint + AllocGlobal>(rt: &R, words: &[String]) {
+pub(crate) fn report_name<R: ConfigHost>(rt: &R, words: &[String]) {
     let Some(name) = operator_named(words) else {
         return;
     };

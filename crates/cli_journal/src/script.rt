@@ -8,6 +8,7 @@ ghost use Rattle.cli_journal.specs.Script.{IsLineOf, behind_head};
 
 use crate::configuration::{configuration_in, configuration_text};
 use crate::exit_cause::ExitCause;
+use crate::host::ReadHost;
 use crate::integrity::check_startable;
 use cli_args::AuditOptions;
 use journal_entry::{EntryClient, JournalEntry, Unfit, request_by};
@@ -16,9 +17,8 @@ use journal_folder::{
     survey_of,
 };
 use mds_request::Config;
-use std::alloc::{AllocError, AllocGlobal, Global};
-use std::fs::{File, Files};
-use std::io::{self, BufWriter, Print, Write};
+use std::alloc::{AllocError, Global};
+use std::io::{self, BufWriter, Write};
 
 /// Writes bytes.
 ///
@@ -150,10 +150,7 @@ fn print_script<W: Write>(
 /// # Errors
 ///
 /// `Misconfigured`, `Folder`, `NotPrinted` or `NoMemory`. What was printed by then is a prefix of the script.
-pub fn audit<R: Files<File = File> + Print + AllocGlobal>(
-    rt: &R,
-    asked: &AuditOptions<'_>,
-) -> Result<(), ExitCause> {
+pub fn audit<R: ReadHost>(rt: &R, asked: &AuditOptions<'_>) -> Result<(), ExitCause> {
     let alloc = rt.alloc();
     let text = configuration_text(rt, alloc, asked.config)?;
     let bytes = journal_bytes(rt, alloc, asked.folder)?;

@@ -7,10 +7,10 @@ use crate::messages::location_at;
 use crate::sending::note_reply;
 use cli_client::HttpResponse;
 use cli_documents::{Origin, member_of};
+use cli_host::{MessageHost, OutputHost};
 use mds_json::read_tree;
 use mds_text::{TextFault, Tree, print_tree};
-use std::alloc::{AllocGlobal, Global};
-use std::io::{Eprint, Print};
+use std::alloc::Global;
 
 /// The most reports and the most bytes of a batch.
 const MOST_REPORTS: usize = 4_000;
@@ -127,7 +127,7 @@ fn behind_line(bytes: &[u8]) -> &[u8] {
 /// # Errors
 ///
 /// `NotPrinted`, `NoMemory`.
-pub(crate) fn print_batch<R: Print + AllocGlobal>(
+pub(crate) fn print_batch<R: OutputHost>(
     rt: &R,
     batch: &ReportBatch,
     tally: &mut TransferTally,
@@ -180,7 +180,7 @@ fn status_in(line: &Tree) -> Option<u16> {
 /// # Errors
 ///
 /// `NoServer`, `Barred`, `NoMemory`.
-fn note_lines<R: Eprint + AllocGlobal>(
+fn note_lines<R: MessageHost>(
     rt: &R,
     files: &[String],
     batch: &ReportBatch,
@@ -202,7 +202,7 @@ fn note_lines<R: Eprint + AllocGlobal>(
 /// # Errors
 ///
 /// `NoServer`, `Barred`, `NoMemory`.
-pub(crate) fn note_batch<R: Eprint + AllocGlobal>(
+pub(crate) fn note_batch<R: MessageHost>(
     rt: &R,
     files: &[String],
     batch: &ReportBatch,

@@ -1,5 +1,6 @@
 //! Connections to a server, with a deadline.
 
+use crate::host::DialHost;
 use cli_client::Dial;
 use std::io::{self, ErrorKind, Read, Write};
 use std::net::{Net, OpenStream, TcpStream};
@@ -43,7 +44,7 @@ fn deadline<R: Clock>(rt: &R) -> io::Result<Duration> {
     }
 }
 
-impl<R: Net + Clock> Read for TimedStream<'_, R> {
+impl<R: DialHost> Read for TimedStream<'_, R> {
     fn read(&mut self, buf: &mut [u8]) -> io::Result<usize> {
         if self.rt.monotonic()? > self.until {
             return Err(ErrorKind::TimedOut.into());
@@ -52,7 +53,7 @@ impl<R: Net + Clock> Read for TimedStream<'_, R> {
     }
 }
 
-impl<R: Net + Clock> Write for TimedStream<'_, R> {
+impl<R: DialHost> Write for TimedStream<'_, R> {
     fn write(&mut self, buf: &[u8]) -> io::Result<usize> {
         self.until = deadline(self.rt)?;
         self.stream.write(buf)
@@ -63,7 +64,7 @@ impl<R: Net + Clock> Write for TimedStream<'_, R> {
     }
 }
 
-impl<'a, R: Net + Clock> Dial for Dialer<'a, R> {
+impl<'a, R: DialHost> Dial for Dialer<'a, R> {
     type Stream = TimedStream<'a, R>;
 
     fn dial(&self) -> io::Result<TimedStream<'a, R>> {

@@ -7,14 +7,13 @@ use crate::messages::DocumentLocation;
 use crate::sending::{client_of, report_refusal, response_or_end};
 use cli_client::{ClientRequest, HttpResponse, RemoteServer};
 use cli_documents::list_member;
+use cli_host::{FileHost, MessageHost};
 use cli_vehicles::{features_file, geographies_file, policies_file};
 use mds_json::read_tree;
 use mds_text::{TextFault, Tree};
-use std::alloc::{AllocGlobal, Global};
-use std::fs::{self, File, Files};
-use std::io::{Eprint, Print};
-use std::net::Net;
-use std::time::Clock;
+use std::alloc::Global;
+use std::fs;
+use std::io::Print;
 
 /// The body of a response as JSON.
 ///
@@ -34,7 +33,7 @@ fn tree_in(alloc: Global, reply: &HttpResponse) -> Result<Tree, TransferEnd> {
 /// # Errors
 ///
 /// `NoMemory`.
-fn end_of_refusal<R: Eprint + AllocGlobal>(
+fn end_of_refusal<R: MessageHost>(
     rt: &R,
     target: &str,
     reply: &HttpResponse,
@@ -78,12 +77,7 @@ fn fetch_tree<R: TransferHost>(
 /// # Errors
 ///
 /// `NotWritten`, `NoMemory`.
-fn write<R: Files<File = File> + AllocGlobal>(
-    rt: &R,
-    folder: &str,
-    name: &str,
-    text: &[u8],
-) -> Result<(), TransferEnd> {
+fn write<R: FileHost>(rt: &R, folder: &str, name: &str, text: &[u8]) -> Result<(), TransferEnd> {
     let path = format!(in rt.alloc(); "{folder}/{name}")?;
     match fs::write(rt, path.as_str(), text) {
         Ok(()) => Ok(()),
@@ -96,7 +90,7 @@ fn write<R: Files<File = File> + AllocGlobal>(
 /// # Errors
 ///
 /// `NotWritten`, `NoMemory`.
-fn write_all<R: Files<File = File> + AllocGlobal>(
+fn write_all<R: FileHost>(
     rt: &R,
     folder: &str,
     policies: &[Tree],

@@ -3,11 +3,10 @@
 use crate::dialing::{Dialer, TimedStream};
 use crate::draft_limits::is_visible;
 use crate::end::TransferEnd;
+use crate::host::DialHost;
 use cli_client::{Dial, HeadProgress, ResponseFault, body_of, parse_head};
-use std::alloc::{AllocError, AllocGlobal, Global};
+use std::alloc::{AllocError, Global};
 use std::io::{self, ErrorKind, Read, Write};
-use std::net::Net;
-use std::time::Clock;
 
 /// The most bytes of a file, and of a response that has one.
 pub(crate) const MOST_BYTES: u64 = 67_108_864;
@@ -70,9 +69,9 @@ pub(crate) fn link_of(alloc: Global, word: &str) -> Result<Option<Link>, AllocEr
 /// # Errors
 ///
 /// The connection's; out of memory.
-fn send_and_read<S: Read + Write + Drop>(
+fn send_and_read<R: DialHost>(
     alloc: Global,
-    stream: S,
+    stream: TimedStream<'_, R>,
     request: &[u8],
     most: u64,
 ) -> io::Result<Vec<u8>> {
@@ -124,7 +123,7 @@ fn request_for(alloc: Global, link: &Link) -> Result<String, AllocError> {
 /// # Errors
 ///
 /// Nothing listens there.
-fn open_stream<'a, R: Net + Clock>(rt: &'a R, address: &'a str) -> io::Result<TimedStream<'a, R>> {
+fn open_stream<'a, R: DialHost>(rt: &'a R, address: &'a str) -> io::Result<TimedStream<'a, R>> {
     let dialer = Dialer { rt, address };
     dialer.dial()
 }
@@ -135,14 +134,15 @@ fn open_stream<'a, R: Net + Clock>(rt: &'a R, address: &'a str) -> io::Result<Ti
 /// # Errors
 ///
 /// Nothing listens there; the connection's; out of memory.
-fn answer_of<R: Net + Clock + AllocGlobal>(
+fn answer_of<R: DialHost>(
     rt: &R,
+    alloc: Global,
     address: &str,
     request: &str,
     most: u64,
 ) -> io::Result<Vec<u8>> {
     let stream = open_stream(rt, address)?;
-    send_and_read(rt.alloc(), stream, request.as_bytes(), most)
+    send_and_read(alloc, stream, request.as_bytes(), most)
 }
 
 /// Asks for a file once, and gives its bytes, or in words why they can't be had.
@@ -150,17 +150,24 @@ fn answer_of<R: Net + Clock + AllocGlobal>(
 /// # Errors
 ///
 /// `NoMemory`.
-pub(crate) fn fetch_file<R: Net + Clock + AllocGlobal>(
+pub(crate) fn fetch_file<R: DialHost>(
     rt: &R,
+    alloc: Global,
     link: &Link,
 ) -> Result<Result<Vec<u8>, &'static str>, TransferEnd> {
-    let request = request_for(rt.alloc(), link)?;
-    match answer_of(rt, link.host.as_str(), request.as_str(), MOST_BYTES + 1) {
+    let request = request_for(alloc, link)?;
+    match answer_of(
+        rt,
+        alloc,
+        link.host.as_str(),
+        request.as_str(),
+        MOST_BYTES + 1,
+    ) {
         Ok(bytes) => {
             if bytes.len() as u64 > MOST_BYTES {
                 return Ok(Err(TOO_LONG));
             }
-            body_in(rt.alloc(), &bytes)
+            body_in(alloc, &bytes)
         }
         Err(error) => match error.kind() {
             ErrorKind::OutOfMemory => Err(TransferEnd::NoMemory),

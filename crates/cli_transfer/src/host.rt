@@ -1,12 +1,16 @@
-//! The runtime of an import or an export.
+//! What imports and exports need of the machine.
 
-use std::alloc::AllocGlobal;
-use std::fs::{File, Files};
-use std::io::{Eprint, Print};
+use cli_host::{FileHost, MessageHost};
+use std::io::Print;
 use std::net::Net;
 use std::time::Clock;
 
-/// The runtime of an import or an export: sockets, the clock, files, memory, standard output and standard error.
-pub trait TransferHost: Net + Clock + Files<File = File> + Print + Eprint + AllocGlobal {}
+/// What a connection with a deadline needs: sockets and the clock.
+pub trait DialHost: Net + Clock {}
 
-impl<R: Net + Clock + Files<File = File> + Print + Eprint + AllocGlobal> TransferHost for R {}
+impl<R: Net + Clock> DialHost for R {}
+
+/// The runtime of an import or an export: sockets, the clock, files, memory, standard output and standard error.
+pub trait TransferHost: DialHost + FileHost + MessageHost + Print {}
+
+impl<R: DialHost + FileHost + MessageHost + Print> TransferHost for R {}

@@ -3,10 +3,10 @@
 use crate::end::TransferEnd;
 use crate::escape::escape_bytes;
 use cli_documents::Origin;
+use cli_host::MessageHost;
 use mds_json::read_tree;
 use mds_text::{TextFault, Tree};
-use std::alloc::{AllocGlobal, Global};
-use std::io::Eprint;
+use std::alloc::Global;
 
 /// The most bytes of a response that are shown where it has no code of the protocol.
 const MOST_SHOWN: usize = 200;
@@ -36,7 +36,7 @@ pub(crate) fn location_at(files: &[String], origin: Origin) -> DocumentLocation<
 /// # Errors
 ///
 /// `NoMemory`. That standard error can't be written isn't reported.
-pub fn print_message<R: Eprint + AllocGlobal>(
+pub fn print_message<R: MessageHost>(
     rt: &R,
     spot: DocumentLocation<'_>,
     words: &str,

@@ -13,12 +13,10 @@ use cli_documents::{
     ImportDraft, Origin, PreparedDocument, RefusalReason, RefusedDocument, decimal_at, documents,
     order_drafts, prepare, prepare_feature, target_of, unjudged_rule_ids,
 };
+use cli_host::{MessageHost, OutputHost};
 use mds_text::{DraftKind, Tree};
-use std::alloc::{AllocError, AllocGlobal, Global};
-use std::fs::{File, Files};
-use std::io::{Eprint, Print};
-use std::net::Net;
-use std::time::Clock;
+use std::alloc::{AllocError, Global};
+use std::io::Print;
 
 /// The drafts of the files read so far, and how many documents or files were refused.
 #[derive(Drop)]
@@ -68,7 +66,7 @@ fn refusal(alloc: Global, refused: &RefusedDocument<'_>) -> Result<String, Alloc
 /// # Errors
 ///
 /// `NoMemory`.
-fn report_without_effect<R: Eprint + AllocGlobal>(
+fn report_without_effect<R: MessageHost>(
     rt: &R,
     sheet: DocumentFile<'_>,
     document: usize,
@@ -99,7 +97,7 @@ fn report_without_effect<R: Eprint + AllocGlobal>(
 /// # Errors
 ///
 /// `NoMemory`.
-fn take_in<R: Eprint + AllocGlobal>(
+fn take_in<R: MessageHost>(
     rt: &R,
     gathered: &mut PolicyImport,
     sheet: DocumentFile<'_>,
@@ -130,7 +128,7 @@ fn take_in<R: Eprint + AllocGlobal>(
 /// # Errors
 ///
 /// `NoMemory`.
-fn gather_features<R: Eprint + AllocGlobal>(
+fn gather_features<R: MessageHost>(
     rt: &R,
     gathered: &mut PolicyImport,
     sheet: DocumentFile<'_>,
@@ -148,7 +146,7 @@ fn gather_features<R: Eprint + AllocGlobal>(
 /// # Errors
 ///
 /// `NoMemory`.
-fn gather_list<R: Eprint + AllocGlobal>(
+fn gather_list<R: MessageHost>(
     rt: &R,
     gathered: &mut PolicyImport,
     sheet: DocumentFile<'_>,
@@ -179,7 +177,7 @@ fn is_policy(prepared: &PreparedDocument<'_>) -> bool {
 /// # Errors
 ///
 /// `NoMemory`.
-fn gather<R: Eprint + AllocGlobal>(
+fn gather<R: MessageHost>(
     rt: &R,
     gathered: &mut PolicyImport,
     sheet: DocumentFile<'_>,
@@ -223,7 +221,7 @@ fn gather_all<R: TransferHost>(rt: &R, files: &[String]) -> Result<PolicyImport,
 /// # Errors
 ///
 /// `NotPrinted`, `NoMemory`.
-fn print_drafts<R: Print + AllocGlobal>(
+fn print_drafts<R: OutputHost>(
     rt: &R,
     drafts: &[ImportDraft],
     tally: &mut TransferTally,

@@ -3,15 +3,12 @@
 use crate::dialing::Dialer;
 use crate::draft_limits::is_visible;
 use crate::end::{TransferEnd, TransferTally};
-use crate::host::TransferHost;
+use crate::host::{DialHost, TransferHost};
 use crate::meaning::{Meaning, meaning_of};
 use crate::messages::{DocumentLocation, location_at, print_message, refusal_text};
 use cli_client::{Client, ClientRequest, HttpResponse, RemoteServer, ResponseFault};
 use cli_documents::{ImportDraft, target_of};
-use std::alloc::AllocGlobal;
-use std::io::Eprint;
-use std::net::Net;
-use std::time::Clock;
+use cli_host::MessageHost;
 
 /// After each so many documents progress is reported.
 const STEP: usize = 64;
@@ -21,7 +18,7 @@ const STEP: usize = 64;
 /// # Errors
 ///
 /// `BadPlace` where the address or the access token may not stand in a request.
-pub(crate) fn client_of<'a, R: Net + Clock>(
+pub(crate) fn client_of<'a, R: DialHost>(
     rt: &'a R,
     server: &RemoteServer<'a>,
 ) -> Result<Client<'a, Dialer<'a, R>>, TransferEnd> {
@@ -54,7 +51,7 @@ pub(crate) fn response_or_end(
 /// # Errors
 ///
 /// `NoMemory`.
-pub(crate) fn report_refusal<R: Eprint + AllocGlobal>(
+pub(crate) fn report_refusal<R: MessageHost>(
     rt: &R,
     spot: DocumentLocation<'_>,
     reply: &HttpResponse,
@@ -70,7 +67,7 @@ pub(crate) fn report_refusal<R: Eprint + AllocGlobal>(
 /// # Errors
 ///
 /// `Barred` and `NoServer` where nothing else would be accepted either, `NoMemory`.
-pub(crate) fn note_reply<R: Eprint + AllocGlobal>(
+pub(crate) fn note_reply<R: MessageHost>(
     rt: &R,
     spot: DocumentLocation<'_>,
     reply: &HttpResponse,

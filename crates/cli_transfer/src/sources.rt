@@ -7,11 +7,9 @@ use crate::messages::{DocumentLocation, print_message};
 use crate::opening::{FileOpenFault, open_source};
 use mds_json::read_and_count;
 use mds_text::{TextFault, Tree};
-use std::alloc::{AllocGlobal, Global};
-use std::fs::{File, Files};
-use std::io::{Eprint, ErrorKind, Read};
-use std::net::Net;
-use std::time::Clock;
+use std::alloc::Global;
+use std::fs::File;
+use std::io::{ErrorKind, Read};
 
 /// What a file holds.
 #[derive(Drop)]
@@ -26,10 +24,7 @@ pub struct ParsedFile {
 /// # Errors
 ///
 /// `NoMemory`.
-fn bytes_in<S: Read + Drop>(
-    alloc: Global,
-    file: S,
-) -> Result<Result<Vec<u8>, &'static str>, TransferEnd> {
+fn bytes_in(alloc: Global, file: File) -> Result<Result<Vec<u8>, &'static str>, TransferEnd> {
     let mut bytes = Vec::new(alloc);
     let mut front = file.take(MOST_BYTES + 1);
     if let Err(error) = front.read_to_end(&mut bytes) {
@@ -74,7 +69,7 @@ fn bytes_of<R: TransferHost>(
 ) -> Result<Result<Vec<u8>, &'static str>, TransferEnd> {
     let alloc = rt.alloc();
     match link_of(alloc, path)? {
-        Some(link) => fetch_file(rt, &link),
+        Some(link) => fetch_file(rt, alloc, &link),
         None => match open_source(rt, path) {
             Ok(file) => bytes_in(alloc, file),
             Err(fault) => Ok(Err(fault.words())),

@@ -12,13 +12,11 @@ use crate::sources::read_and_parse;
 use cli_args::Import;
 use cli_client::{ClientRequest, HttpResponse, RemoteServer};
 use cli_documents::{Origin, member_of};
+use cli_host::{MessageHost, OutputHost};
 use cli_vehicles::{VehicleOutcome, gbfs_outcome, instant_of, mds_outcome};
 use mds_text::{Id, Tree};
-use std::alloc::{AllocError, AllocGlobal, Global};
-use std::fs::{File, Files};
-use std::io::{Eprint, Print};
-use std::net::Net;
-use std::time::Clock;
+use std::alloc::{AllocError, Global};
+use std::io::Print;
 
 /// A vehicle that is removed from the fleet.
 #[derive(Clone, Copy)]
@@ -40,7 +38,7 @@ struct StatusImport {
 /// # Errors
 ///
 /// `NoMemory`.
-fn take_in<R: Eprint + AllocGlobal>(
+fn take_in<R: MessageHost>(
     rt: &R,
     files: &[String],
     gathered: &mut StatusImport,
@@ -93,7 +91,7 @@ fn last_report_moment(file: &Tree, vehicle: &Tree) -> Option<i64> {
 /// # Errors
 ///
 /// `NoMemory`.
-fn gather_statuses<R: Eprint + AllocGlobal>(
+fn gather_statuses<R: MessageHost>(
     rt: &R,
     files: &[String],
     sheets: &[FeedFile],
@@ -114,7 +112,7 @@ fn gather_statuses<R: Eprint + AllocGlobal>(
 /// # Errors
 ///
 /// `NoMemory`.
-fn gather_vehicles<R: Eprint + AllocGlobal>(
+fn gather_vehicles<R: MessageHost>(
     rt: &R,
     files: &[String],
     sheets: &[FeedFile],
@@ -140,7 +138,7 @@ fn gather_vehicles<R: Eprint + AllocGlobal>(
 /// # Errors
 ///
 /// `NoMemory`.
-fn report_no_feed<R: Eprint + AllocGlobal>(rt: &R, path: &str) -> Result<(), TransferEnd> {
+fn report_no_feed<R: MessageHost>(rt: &R, path: &str) -> Result<(), TransferEnd> {
     let spot = DocumentLocation {
         file: path,
         document: None,
@@ -253,7 +251,7 @@ fn is_absent(alloc: Global, reply: &HttpResponse) -> Result<bool, TransferEnd> {
 /// # Errors
 ///
 /// `NoServer`, `Barred`, `NoMemory`.
-fn note_removal<R: Eprint + AllocGlobal>(
+fn note_removal<R: MessageHost>(
     rt: &R,
     spot: DocumentLocation<'_>,
     reply: &HttpResponse,
@@ -310,7 +308,7 @@ fn send_all<R: TransferHost>(
 /// # Errors
 ///
 /// `NotPrinted`, `NoMemory`.
-fn print_all<R: Print + AllocGlobal>(
+fn print_all<R: OutputHost>(
     rt: &R,
     gathered: &StatusImport,
     tally: &mut TransferTally,

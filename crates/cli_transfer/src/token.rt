@@ -6,8 +6,9 @@ use crate::end::TransferEnd;
 use crate::opening::{FileOpenFault, open_source};
 use cli_args::{Destination, TokenSource};
 use cli_client::RemoteServer;
-use std::alloc::{AllocGlobal, Global};
-use std::fs::{File, Files};
+use cli_host::FileHost;
+use std::alloc::Global;
+use std::fs::File;
 use std::io::{ErrorKind, Read};
 use std::str::from_utf8;
 
@@ -80,7 +81,7 @@ fn token_in(bytes: &[u8]) -> Result<&[u8], TokenFault>
 /// # Errors
 ///
 /// `NoToken` where they can't be read, `NoMemory`.
-fn first_bytes<S: Read + Drop>(alloc: Global, file: S) -> Result<Vec<u8>, TransferEnd> {
+fn first_bytes(alloc: Global, file: File) -> Result<Vec<u8>, TransferEnd> {
     let mut bytes = Vec::new(alloc);
     let mut front = file.take(MOST_READ);
     match front.read_to_end(&mut bytes) {
@@ -97,10 +98,7 @@ fn first_bytes<S: Read + Drop>(alloc: Global, file: S) -> Result<Vec<u8>, Transf
 /// # Errors
 ///
 /// `NoToken`, `BadPlace` where it isn't UTF-8, `NoMemory`.
-fn read_token<R: Files<File = File> + AllocGlobal>(
-    rt: &R,
-    path: &str,
-) -> Result<String, TransferEnd> {
+fn read_token<R: FileHost>(rt: &R, path: &str) -> Result<String, TransferEnd> {
     let file = match open_source(rt, path) {
         Ok(file) => file,
         Err(FileOpenFault::NotRegular) => return Err(TransferEnd::NoToken(TokenFault::NotRegular)),
@@ -121,10 +119,7 @@ fn read_token<R: Files<File = File> + AllocGlobal>(
 /// # Errors
 ///
 /// As `read_token`.
-fn token_from<R: Files<File = File> + AllocGlobal>(
-    rt: &R,
-    source: TokenSource<'_>,
-) -> Result<String, TransferEnd> {
+fn token_from<R: FileHost>(rt: &R, source: TokenSource<'_>) -> Result<String, TransferEnd> {
     match source {
         TokenSource::Argument(token) => Ok(String::from_str(rt.alloc(), token)?),
         TokenSource::File(path) => read_token(rt, path),
@@ -136,7 +131,7 @@ fn token_from<R: Files<File = File> + AllocGlobal>(
 /// # Errors
 ///
 /// As `read_token`.
-pub(crate) fn token_for<R: Files<File = File> + AllocGlobal>(
+pub(crate) fn token_for<R: FileHost>(
     rt: &R,
     destination: Option<Destination<'_>>,
 ) -> Result<String, TransferEnd> {

@@ -7,11 +7,6 @@ use crate::policies::import_policies;
 use crate::status::import_status;
 use crate::token::{server_for, server_of, token_for};
 use cli_args::{Destination, TokenSource, Transfer};
-use std::alloc::AllocGlobal;
-use std::fs::{File, Files};
-use std::io::{Eprint, Print};
-use std::net::Net;
-use std::time::Clock;
 
 /// The server of a transfer, and where its access token comes from; `None` where nothing is sent.
 fn destination_of<'a>(errand: &Transfer<'a>) -> Option<Destination<'a>> {
