@@ -119,10 +119,11 @@ pub trait LogName {
     ghost book: { Book };
 }
 
-/// The name of a log that several threads have.
+/// The name of a log that several threads have. `Brand` alone has it, so that the proof of a call with `Brand` can pick
+/// the book.
 pub trait SharedLogName: LogName + Send + Sync {}
 
-impl<N: LogName + Send + Sync> SharedLogName for N {}
+impl SharedLogName for Brand {}
 
 impl LogName for Brand {
     ghost book = { record { number = 0; log_name = 0; cells_name = 0 } };

@@ -27,6 +27,11 @@ const CHUNKS: usize = 32;
 /// The fewest vehicles of a chunk, except the last one.
 const LEAST_CHUNK: usize = 1024;
 
+/// The runtime of work that several threads share: it starts them, and each of them may use it.
+pub trait ParallelRuntime: Threads + Sync {}
+
+impl<R: Threads + Sync> ParallelRuntime for R {}
+
 /// Evaluates the vehicles in chunks, by as many threads as there are processors. Each chunk finds, for each pair of
 /// vehicle type and state among its vehicles, the rules that such vehicles can meet, and counts and lists its vehicles;
 /// then the counts are added and the lists joined in the order of the chunks. Little work goes to `Plain`, and so does
@@ -73,7 +78,7 @@ impl<R: Threads + Sync, P: Places> Evaluator<P> for Chunked<R> {
 /// # Errors
 ///
 /// Out of memory.
-pub fn by_threads<R: Threads + Sync, P: Places>(
+pub fn by_threads<R: ParallelRuntime, P: Places>(
     rt: &R,
     alloc: Global,
     policy: &Policy,
@@ -96,7 +101,7 @@ pub fn by_threads<R: Threads + Sync, P: Places>(
 /// # Errors
 ///
 /// Out of memory.
-fn tallies<R: Threads + Sync>(
+fn tallies<R: ParallelRuntime>(
     rt: &R,
     alloc: Global,
     resolved: &ResolvedPolicy<'_>,

@@ -4,4 +4,4 @@
 mod chunked;
 mod table;
 
-pub use chunked::{Chunked, by_threads};
+pub use chunked::{Chunked, ParallelRuntime, by_threads};

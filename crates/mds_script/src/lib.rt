@@ -20,5 +20,5 @@ pub use gather::LINE_LIMIT;
 pub use line_end::without_end;
 pub use lines::INPUT_LIMIT;
 pub use machine::Machine;
-pub use source_sink::{Failed, Sink, Source};
+pub use source_sink::{Failed, InputStream, OutputStream, Sink, Source};
 pub use streams::{run, run_with_detail};

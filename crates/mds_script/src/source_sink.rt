@@ -44,6 +44,16 @@ pub trait Sink {
         ensures counted { failures self.new ≡ failures self.old + write_failures result };
 }
 
+/// A reader of the standard library that may be let go.
+pub trait InputStream: Read + Drop {}
+
+impl<R: Read + Drop> InputStream for R {}
+
+/// A writer of the standard library that may be let go.
+pub trait OutputStream: Write + Drop {}
+
+impl<W: Write + Drop> OutputStream for W {}
+
 /// Any reader of the standard library, as a source.
 #[derive(Drop)]
 pub struct FromReader<R> {
@@ -82,12 +92,12 @@ impl<R: Read> Source for FromReader<R> {
 
 /// Any writer of the standard library, as a sink with a buffer of a few kilobytes.
 #[derive(Drop)]
-pub struct ToWriter<W: Write + Drop> {
+pub struct ToWriter<W: OutputStream> {
     writer: BufWriter<W>,
     failures: u64,
 }
 
-impl<W: Write + Drop> ToWriter<W> {
+impl<W: OutputStream> ToWriter<W> {
     /// The sink that writes to this writer. The only error is out of memory.
     pub fn new(alloc: Global, writer: W) -> Result<Self, AllocError>
         ensures bytes { IfOk result (λ s. Keeps (W.contents writer) (⟦<ToWriter<W> as Sink>⟧.contents s)) }
@@ -116,7 +126,7 @@ impl<W: Write + Drop> ToWriter<W> {
     }
 }
 
-impl<W: Write + Drop> Sink for ToWriter<W> {
+impl<W: OutputStream> Sink for ToWriter<W> {
     ghost contents = { λ s. writer_contents W.contents s.writer };
 
     ghost failures = { λ s. s.failures };

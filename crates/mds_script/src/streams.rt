@@ -6,14 +6,13 @@ ghost use Rattle.mds_script.specs.declared.lines.TheConstants.{INPUT_LIMIT};
 use crate::fault::ReplayFault;
 use crate::machine::Machine;
 use crate::replay::replay;
-use crate::source_sink::{FromReader, ToWriter};
+use crate::source_sink::{FromReader, InputStream, OutputStream, ToWriter};
 use mds_config_error::Detail;
 use std::alloc::Global;
-use std::io::{Read, Write};
 
 /// Replays the reader's input to the writer, and returns the writer once all answers are flushed to it. A write that
 /// fails, also the last one, is the fault `Write`.
-pub fn run<M: Machine, R: Read + Drop, W: Write + Drop>(
+pub fn run<M: Machine, R: InputStream, W: OutputStream>(
     alloc: Global,
     reader: R,
     writer: W,
@@ -26,7 +25,7 @@ pub fn run<M: Machine, R: Read + Drop, W: Write + Drop>(
 }
 
 /// Replays as `run` does, and after the fault `BadConfig` leaves in `detail` what is wrong with the configuration.
-pub fn run_with_detail<M: Machine, R: Read + Drop, W: Write + Drop>(
+pub fn run_with_detail<M: Machine, R: InputStream, W: OutputStream>(
     alloc: Global,
     reader: R,
     writer: W,

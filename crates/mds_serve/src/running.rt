@@ -14,7 +14,7 @@ use server_http::{Queues, bind_first};
 use server_start::{
     HELP, HallService, ServeCommand, ServeFault, SharedMoments, VERSION, command_of, serve, workers,
 };
-use server_state::{Hall, HallName, SharedHallName};
+use server_state::{Hall, SharedHallName};
 use std::env::Env;
 use std::io::{self, Input};
 use std::marker::Brand;
@@ -65,7 +65,7 @@ fn prepare_and_serve<R: ServerRuntime>(
 }
 
 /// Opens a hall, serves and ends it.
-fn open<K: HallName + Send + Sync, R: ServerRuntime>(
+fn open<K: SharedHallName, R: ServerRuntime>(
     rt: &R,
     arguments: Arguments<'_>,
     config: Config,

@@ -29,7 +29,7 @@ use server_journal::{
     run_concurrently,
 };
 use server_start::workers;
-use server_state::{Hall, HallName};
+use server_state::{Hall, HallName, SharedHallName};
 use std::alloc::AllocGlobal;
 use std::fs::{File, Files};
 use std::marker::Brand;
@@ -323,7 +323,7 @@ fn resume_and_report<K: HallName, L: Log, R: ThreadHost + Wait>(
 /// # Errors
 ///
 /// As `resume_and_report`, `Folder` where the log couldn't be continued, or as `persist_and_serve`.
-fn serve_opening<K: HallName + Send + Sync, L: Log + Send, S: Space + Send, R>(
+fn serve_opening<K: SharedHallName, L: Log + Send, S: Space + Send, R>(
     rt: &R,
     log: L,
     space: S,

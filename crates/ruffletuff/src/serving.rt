@@ -121,7 +121,7 @@ pub fn persist_and_serve<K, N, L, S, R>(
 ) -> Result<(), ExitCause>
 where
     K: SharedHallName,
-    N: LogName + Send + Sync,
+    N: SharedLogName,
     L: Log + Send,
     S: Space + Send,
     R: ServerHost,

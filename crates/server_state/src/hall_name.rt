@@ -12,10 +12,11 @@ pub trait HallName: OpeningName {
     ghost configuration: { Configuration };
 }
 
-/// The name of a hall that several threads have.
+/// The name of a hall that several threads have. `Brand` alone has it, so that the proof of a call
+/// with `Brand` can pick what the name stands for.
 pub trait SharedHallName: HallName + Send + Sync {}
 
-impl<K: HallName + Send + Sync> SharedHallName for K {}
+impl SharedHallName for Brand {}
 
 impl HallName for Brand {
     ghost use Rattle.std.specs.Prelude.{[], pos};

@@ -4,14 +4,13 @@ ghost use Rattle.std.specs.Thread.{IsSync};
 
 use crate::square::{NOON, Square, device, id_of, instant, one_square, position, words};
 use mds_match::{LocalMoment, Vehicle, Words};
-use mds_parallel::{Chunked, by_threads};
+use mds_parallel::{Chunked, ParallelRuntime, by_threads};
 use mds_policy::Policy;
 use mds_text::Moment;
 use mds_verdict::{Evaluator, Plain, RuleVerdict, Status};
 use std::alloc::{AllocError, Global};
 use std::process::Abort;
 use std::sync::Arc;
-use std::thread::Threads;
 
 const CAP: &str =
     r#"{"policy_id":"00000000-0000-4000-8000-000000000201","name":"cap","start_date":1000,"rules":[{"rule_id":"00000000-0000-4000-8000-000000000301","name":"cap","rule_type":"count","geographies":["00000000-0000-4000-8000-000000000101"],"maximum":1}]}"#;
@@ -165,7 +164,7 @@ fn by_one(
 }
 
 /// The verdicts by threads, however little work there is.
-fn by_several<R: Threads + Sync>(
+fn by_several<R: ParallelRuntime>(
     rt: &R,
     alloc: Global,
     city: &VerdictInput,
@@ -180,7 +179,7 @@ fn by_several<R: Threads + Sync>(
 }
 
 /// The verdicts by `Chunked`: by threads where there is enough work for them.
-fn by_chunks<R: Threads + Sync>(
+fn by_chunks<R: ParallelRuntime>(
     chunked: &Chunked<R>,
     alloc: Global,
     city: &VerdictInput,
@@ -212,13 +211,13 @@ fn expect_every(rt: &impl Abort, verdict: &RuleVerdict, first: u32, step: u32) {
     }
 }
 
-/// What tests need of the runtime, besides that threads may share it.
-trait VerdictRuntime: Abort + Threads {}
+/// What tests need of the runtime.
+trait VerdictRuntime: ParallelRuntime + Abort {}
 
-impl<R: Abort + Threads> VerdictRuntime for R {}
+impl<R: ParallelRuntime + Abort> VerdictRuntime for R {}
 
 /// Checks the verdicts by threads, at the second try at the latest.
-fn expect_by_several<R: VerdictRuntime + Sync>(
+fn expect_by_several<R: VerdictRuntime>(
     rt: &R,
     alloc: Global,
     city: &VerdictInput,
@@ -242,7 +241,7 @@ fn expect_by_one(rt: &impl Abort, alloc: Global, city: &VerdictInput, vehicles: 
 }
 
 /// Checks the verdicts by threads on no vehicles.
-fn expect_none<R: VerdictRuntime + Sync>(rt: &R, alloc: Global, city: &VerdictInput) {
+fn expect_none<R: VerdictRuntime>(rt: &R, alloc: Global, city: &VerdictInput) {
     let found = match by_several(rt, alloc, city, &[]) {
         Ok(found) => found,
         Err(_) => by_several(rt, alloc, city, &[]).expect(rt, "memory"),
@@ -265,7 +264,7 @@ fn evaluates_or_runs_out_of_memory(rt: HostRuntime) {
 }
 
 /// The verdicts by `Chunked`, at the second try at the latest.
-fn by_chunks_at_last<R: VerdictRuntime + Sync>(
+fn by_chunks_at_last<R: VerdictRuntime>(
     chunked: &Chunked<R>,
     alloc: Global,
     city: &VerdictInput,

@@ -5,7 +5,7 @@ use crate::runtime::{JoinRuntime, TestRuntime};
 use futures::executor::block_on;
 use journal_commit::{
     AwaitSync, CommitFault, CommitLog, CountedSpace, FlushFault, LogName, LogPosition,
-    MOST_TEXTS_OF_ONE, ReserveFault, ResponseTiming, UnnamedHistory, Usage, open,
+    MOST_TEXTS_OF_ONE, ReserveFault, ResponseTiming, SharedLogName, UnnamedHistory, Usage, open,
 };
 use journal_file::{AppendFault, Journal, Log, MemoryStorage};
 use std::alloc::{AllocError, AllocGlobal, Global};
@@ -109,7 +109,7 @@ fn serve_client<K, L, R>(
     log: L,
 ) -> Result<(Result<L, FlushFault>, ClientReplies), Fail>
 where
-    K: LogName + Send + Sync,
+    K: SharedLogName,
     L: Log + Send + Sync,
     R: JoinRuntime,
     requires book { opened.seen.book ≡ K.book }

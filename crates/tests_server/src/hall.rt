@@ -15,7 +15,7 @@ use mds_request::Config;
 use mds_snapshot::{Blank, prepare};
 use mds_text::Moment;
 use server_responses::HttpResult;
-use server_state::{Arrived, Hall, HallName, respond};
+use server_state::{Arrived, Hall, HallName, SharedHallName, respond};
 use std::alloc::{AllocGlobal, Global};
 use std::marker::Brand;
 use std::process::Abort;
@@ -137,7 +137,7 @@ fn run_hall_test<R: HallRuntime + Sync>(rt: &R, visit: HallTest) -> Result<(), F
     open_and_run::<Brand, R>(rt, alloc, config, blank, visit)
 }
 
-fn open_and_run<K: HallName + Send + Sync, R: HallRuntime + Sync>(
+fn open_and_run<K: SharedHallName, R: HallRuntime + Sync>(
     rt: &R,
     alloc: Global,
     config: Config,

@@ -9,7 +9,7 @@ use mds_text::Moment;
 use server_admission::Moments;
 use server_http::{ConnectionRuntime, Queues, bind_first};
 use server_start::{HallService, serve};
-use server_state::{Hall, HallName, SharedHallName};
+use server_state::{Hall, SharedHallName};
 use std::alloc::{AllocGlobal, Global};
 use std::io::{self, Read, Write};
 use std::marker::Brand;
@@ -219,7 +219,7 @@ where
 
 /// Serves one of the scripts. The hall is made once all else is there, so that no earlier failure
 /// leaves one to finish.
-fn serve_script<K: HallName + Send + Sync, R>(
+fn serve_script<K: SharedHallName, R>(
     rt: &R,
     config: Config,
     blank: Blank,

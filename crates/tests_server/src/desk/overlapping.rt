@@ -17,7 +17,7 @@ impl<R: Threads + Wait + Abort> DeskRuntime for R {}
 /// The name of an opening that several threads have.
 trait SharedOpeningName: OpeningName + Send + Sync {}
 
-impl<K: OpeningName + Send + Sync> SharedOpeningName for K {}
+impl SharedOpeningName for Brand {}
 
 /// Flags between two threads.
 #[derive(Drop)]
@@ -252,7 +252,7 @@ enum Overlap {
 }
 
 /// Runs it on a room and desks that are furnished for the configuration.
-fn run_overlap<K: OpeningName + Send + Sync, R: DeskRuntime>(
+fn run_overlap<K: SharedOpeningName, R: DeskRuntime>(
     rt: &R,
     alloc: Global,
     config: Config,

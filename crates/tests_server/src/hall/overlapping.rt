@@ -3,7 +3,7 @@ use super::*;
 use crate::waiting::is_set_in_time;
 use mds_desk::Gate;
 use mds_verdict::Plain;
-use server_state::{SharedHallName, respond_with};
+use server_state::respond_with;
 use std::sync::atomic::{AtomicBool, Ordering};
 use std::thread::join;
 
