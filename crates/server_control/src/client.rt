@@ -3,9 +3,10 @@ ghost use Rattle.std.specs.Prelude.{◌≡◌, IfOk, string_bytes};
 ghost use Rattle.server_control.specs.PortAddress.{stop_request};
 
 use crate::port::{PortAddress, port_address_of};
-use std::alloc::{AllocError, AllocGlobal, Global};
+use crate::runtime::ControlClientRuntime;
+use std::alloc::{AllocError, Global};
 use std::io::{self, Read, Write};
-use std::net::{Net, OpenStream, TcpStream};
+use std::net::{OpenStream, TcpStream};
 use std::os::unix::net::UnixStream;
 use std::time::Duration;
 
@@ -24,13 +25,12 @@ fn stop_request(alloc: Global, host: &str) -> Result<String, AllocError>
     )
 }
 
-/// Sends the request to stop, and returns whether the server does.
+/// Whether the response over a connection is that of a server that stops.
 ///
 /// # Errors
 ///
-/// The connection's, or it ends before an answer came.
-fn ask<C: Read + Write>(stream: &mut C, request: &str) -> io::Result<bool> {
-    stream.write_all(request.as_bytes())?;
+/// The connection's, or it ends before a response came.
+fn is_accepted<C: Read>(stream: &mut C) -> io::Result<bool> {
     let mut answer = [0u8; 12];
     stream.read_exact(&mut answer)?;
     Ok(answer.as_slice() == ACCEPTED)
@@ -42,19 +42,21 @@ fn ask<C: Read + Write>(stream: &mut C, request: &str) -> io::Result<bool> {
 /// # Errors
 ///
 /// Nothing listens there, no answer comes in five seconds, or memory ran out.
-pub fn stop<R: Net + AllocGlobal>(rt: &R, address: &str) -> io::Result<bool> {
+pub fn stop<R: ControlClientRuntime>(rt: &R, address: &str) -> io::Result<bool> {
     let limit = Some(Duration::from_secs(ANSWER_SECONDS));
     match port_address_of(address) {
         PortAddress::Tcp(address) => {
             let mut stream = TcpStream::connect(rt, address)?;
             stream.set_read_timeout(limit)?;
             let host = format!(in rt.alloc(); "{}", stream.peer_addr()?)?;
-            ask(&mut stream, &stop_request(rt.alloc(), &host)?)
+            stream.write_all(stop_request(rt.alloc(), &host)?.as_bytes())?;
+            is_accepted(&mut stream)
         }
         PortAddress::Unix(path) => {
             let mut stream = UnixStream::connect(rt, path)?;
             stream.set_read_timeout(limit)?;
-            ask(&mut stream, &stop_request(rt.alloc(), "localhost")?)
+            stream.write_all(stop_request(rt.alloc(), "localhost")?.as_bytes())?;
+            is_accepted(&mut stream)
         }
     }
 }

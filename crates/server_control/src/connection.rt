@@ -4,11 +4,13 @@ use crate::counters::Counters;
 use crate::exposition::metrics;
 use crate::hosts::Hosts;
 use crate::pages::ControlAnswer;
+use crate::port::Stream;
 use crate::replies::reply_text;
 use crate::request::{MOST_OF_HEAD, answer_due, control_head_of};
-use std::alloc::{AllocError, AllocGlobal, Global};
+use crate::runtime::ControlRuntime;
+use std::alloc::{AllocError, Global};
 use std::io::{self, ErrorKind, Read, Write};
-use std::time::{Clock, Duration, Instant};
+use std::time::{Duration, Instant};
 
 /// Within how many seconds a head has to come, and then its response to be written.
 const LIMIT_SECONDS: u64 = 5;
@@ -32,8 +34,8 @@ struct ReplyWriter {
 
 /// A connection, of which one request is answered.
 #[derive(Drop)]
-pub(crate) struct Connection<C> {
-    stream: C,
+pub(crate) struct Connection {
+    stream: Stream,
     hosts: Hosts,
     head: Vec<u8>,
     /// None, until the head has come.
@@ -67,17 +69,17 @@ impl ReplyWriter {
     }
 }
 
-impl<C: Read + Write> Connection<C> {
+impl Connection {
     /// A connection that was just accepted, whose request may name these hosts.
     ///
     /// # Errors
     ///
     /// The clock's.
-    pub(crate) fn new<R>(rt: &R, stream: C, hosts: Hosts) -> io::Result<Connection<C>>
-    where
-        R: Clock + AllocGlobal,
-        C: Drop,
-    {
+    pub(crate) fn new<R: ControlRuntime>(
+        rt: &R,
+        stream: Stream,
+        hosts: Hosts,
+    ) -> io::Result<Connection> {
         Ok(Connection {
             stream,
             hosts,
@@ -122,7 +124,7 @@ impl<C: Read + Write> Connection<C> {
         server: &ControlledServer<'_, S>,
     ) -> io::Result<ConnProgress>
     where
-        R: Clock + AllocGlobal,
+        R: ControlRuntime,
         S: StopServer,
     {
         if self.since.elapsed(rt)? >= Duration::from_secs(LIMIT_SECONDS) {

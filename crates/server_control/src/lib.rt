@@ -16,6 +16,7 @@ mod pages;
 mod port;
 mod replies;
 mod request;
+mod runtime;
 mod serving;
 
 pub use client::stop;
@@ -29,4 +30,5 @@ pub use metered::{MeteredReply, RequestTimer};
 pub use pages::{ControlAnswer, ControlMethod, answer_for};
 pub use port::{Port, PortWaker};
 pub use request::{ControlHead, answer_due, control_head_of};
+pub use runtime::{ControlClientRuntime, ControlRuntime};
 pub use serving::serve_control;

@@ -2,6 +2,7 @@
 ghost use Rattle.server_control.specs.PortAddress.{PlaceOf};
 
 use crate::hosts::Hosts;
+use crate::runtime::SocketRuntime;
 use libc::net::listen;
 use mio::unix::SourceFd;
 use mio::{Events, Interest, Poll, Token, Waker};
@@ -112,7 +113,7 @@ impl PortWaker {
 /// # Errors
 ///
 /// The path is too long or can't be bound, as there is a file.
-fn listen_at<R: Net + Files>(rt: &R, path: &str) -> io::Result<UnixListener> {
+fn listen_at<R: SocketRuntime>(rt: &R, path: &str) -> io::Result<UnixListener> {
     let socket = rt.unix_socket()?;
     rt.bind_unix(socket.as_fd(), &UnixAddr::from_pathname(path)?)?;
     fs::set_permissions(rt, path, Permissions::from_mode(OWNER_ONLY))?;
@@ -123,7 +124,7 @@ fn listen_at<R: Net + Files>(rt: &R, path: &str) -> io::Result<UnixListener> {
 }
 
 /// Whether a path is that of a socket at which nobody listens any more.
-fn is_abandoned<R: Net + Files>(rt: &R, path: &str) -> bool {
+fn is_abandoned<R: SocketRuntime>(rt: &R, path: &str) -> bool {
     let is_socket = match fs::symlink_metadata(rt, path) {
         Ok(found) => found.file_type().is_socket(),
         Err(_) => false,
@@ -140,7 +141,7 @@ fn is_abandoned<R: Net + Files>(rt: &R, path: &str) -> bool {
 /// # Errors
 ///
 /// The path can't be bound, as somebody listens there, or another file has it.
-fn bind_unix<R: Net + Files>(rt: &R, path: &str) -> io::Result<UnixListener> {
+fn bind_unix<R: SocketRuntime>(rt: &R, path: &str) -> io::Result<UnixListener> {
     if is_abandoned(rt, path) {
         fs::remove_file(rt, path)?;
     }

@@ -2,12 +2,12 @@
 use crate::connection::{ConnProgress, Connection};
 use crate::control::{Control, ControlledServer, StopServer};
 use crate::counters::Counters;
-use crate::port::{Port, Stream};
-use std::alloc::AllocGlobal;
+use crate::port::Port;
+use crate::runtime::ControlRuntime;
 use std::collections::VecDeque;
 use std::io::{self, ErrorKind};
 use std::thread;
-use std::time::{Clock, Duration};
+use std::time::Duration;
 
 /// How many connections may be open. Where one more comes, the oldest is closed.
 const MOST_CONNECTIONS: usize = 64;
@@ -19,7 +19,7 @@ const TICK_MILLIS: u64 = 250;
 const PAUSE_MILLIS: u64 = 20;
 
 /// The open connections, the oldest first.
-type Connections = VecDeque<Connection<Stream>>;
+type Connections = VecDeque<Connection>;
 
 /// What became of the connections that wait to be accepted.
 #[derive(Clone, Copy)]
@@ -57,7 +57,7 @@ pub fn serve_control<R, S>(
     stop: &S,
 )
 where
-    R: Clock + AllocGlobal,
+    R: ControlRuntime,
     S: StopServer,
 {
     let server = ControlledServer {
@@ -85,12 +85,12 @@ where
 /// Out of memory.
 fn advance<R, S>(
     rt: &R,
-    mut connection: Connection<Stream>,
+    mut connection: Connection,
     connections: &mut Connections,
     server: &ControlledServer<'_, S>,
 ) -> io::Result<()>
 where
-    R: Clock + AllocGlobal,
+    R: ControlRuntime,
     S: StopServer,
 {
     if connection.advance(rt, server)? == ConnProgress::Waits {
@@ -102,7 +102,7 @@ where
 /// Lets each connection go on. One that fails is closed.
 fn advance_all<R, S>(rt: &R, connections: &mut Connections, server: &ControlledServer<'_, S>)
 where
-    R: Clock + AllocGlobal,
+    R: ControlRuntime,
     S: StopServer,
 {
     for _ in 0..connections.len() {
@@ -120,7 +120,7 @@ fn accept_some<R, S>(
     server: &ControlledServer<'_, S>,
 ) -> AcceptBacklog
 where
-    R: Clock + AllocGlobal,
+    R: ControlRuntime,
     S: StopServer,
 {
     for _ in 0..MOST_CONNECTIONS {

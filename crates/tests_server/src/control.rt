@@ -1,12 +1,13 @@
 //! Tests of the control port over loopback.
 use server_control::{
-    CallKind, Control, ControlAnswer, ControlHead, Counters, Figure, Fleet, Hosts, Port,
-    StopServer, answer_due, control_head_of, metrics, serve_control, stop,
+    CallKind, Control, ControlAnswer, ControlClientRuntime, ControlHead, Counters, Figure, Fleet,
+    Hosts, Port, StopServer, answer_due, control_head_of, metrics, serve_control, stop,
 };
-use std::alloc::{AllocError, AllocGlobal, Global};
-use std::fs::{self, Files};
+use std::alloc::{AllocError, Global};
+use std::fs;
+use std::fs::Files;
 use std::io::{self, Read, Write};
-use std::net::{Net, SocketAddr, TcpListener, TcpStream};
+use std::net::{SocketAddr, TcpStream};
 use std::os::unix::fs::PermissionsExt;
 use std::os::unix::net::{UnixListener, UnixStream};
 use std::sync::Arc;
@@ -154,7 +155,11 @@ fn waits_for_the_rest_of_a_head(rt: HostRuntime) -> Result<(), Fail> {
 }
 
 /// The response to one head.
-fn reply_to<R: Net + AllocGlobal>(rt: &R, address: SocketAddr, head: &str) -> io::Result<Vec<u8>> {
+fn reply_to<R: ControlClientRuntime>(
+    rt: &R,
+    address: SocketAddr,
+    head: &str,
+) -> io::Result<Vec<u8>> {
     let mut stream = TcpStream::connect(rt, address)?;
     stream.write_all(head.as_bytes())?;
     let mut reply = Vec::new(rt.alloc());
@@ -165,7 +170,7 @@ fn reply_to<R: Net + AllocGlobal>(rt: &R, address: SocketAddr, head: &str) -> io
 const HEALTH: &str = "GET /healthz HTTP/1.1\r\nhost: localhost\r\n\r\n";
 
 /// Whether each request has its response.
-fn are_right<R: Net + AllocGlobal>(
+fn are_right<R: ControlClientRuntime>(
     rt: &R,
     address: SocketAddr,
     control: &Control,
@@ -220,7 +225,7 @@ fn answers_and_stops(rt: HostRuntime) -> Result<(), Fail> {
 }
 
 /// How long a request takes next to so many connections that send nothing.
-fn time_next_to<R: Net + Clock + AllocGlobal>(
+fn time_next_to<R: ControlClientRuntime + Clock>(
     rt: &R,
     address: SocketAddr,
     count: usize,
@@ -263,10 +268,7 @@ fn answers_beside_idle_connections(rt: HostRuntime) -> Result<(), Fail> {
 const SOCKET: &str = "unix:control.sock";
 
 /// Whether a Unix socket is its owner's alone, is reached whatever the host, and stops the server.
-fn is_right_at_socket<R>(rt: &R) -> io::Result<bool>
-where
-    R: Net<Listener = TcpListener, Stream = TcpStream> + Files + AllocGlobal,
-{
+fn is_right_at_socket<R: ControlClientRuntime + Files>(rt: &R) -> io::Result<bool> {
     let mode = fs::symlink_metadata(rt, "control.sock")?
         .permissions()
         .mode();
@@ -274,13 +276,7 @@ where
     stream.write_all(b"GET /healthz HTTP/1.1\r\nhost: any\r\n\r\n")?;
     let mut reply = Vec::new(rt.alloc());
     stream.read_to_end(&mut reply)?;
-    let is_taken = Port::bind(rt, SOCKET, None).is_err();
-    Ok(
-        mode & 0o777 == 0o600
-            && reply.starts_with(b"HTTP/1.1 503 ")
-            && is_taken
-            && stop(rt, SOCKET)?,
-    )
+    Ok(mode & 0o777 == 0o600 && reply.starts_with(b"HTTP/1.1 503 ") && stop(rt, SOCKET)?)
 }
 
 #[test]
@@ -288,6 +284,7 @@ fn listens_at_a_socket(rt: HostRuntime) -> Result<(), Fail> {
     let abandoned = UnixListener::bind(&rt, "control.sock")?;
     drop(abandoned);
     let mut port = Port::bind(&rt, SOCKET, None)?;
+    assert!(rt; Port::bind(&rt, SOCKET, None).is_err());
     let waker = port.waker()?;
     let counters = zero_counters(rt.alloc())?;
     let control = Control::new();
