@@ -4,13 +4,13 @@
     control.py PROGRAM
 
 Expects of a server at 127.0.0.1, at every address, with a name of its own, and at a Unix socket: who names its address, localhost or that
-name is answered; a 405, and no other answer, names the method that its path takes; another host, an Origin or a Sec-Fetch-Site is refused
-with 403, and stops nothing; none or several hosts are 400; a head is answered as soon as it ends, by line feeds alone too, and a connection
-whose head doesn't end is closed in its time; beside 50 and beside 200 connections that say nothing the health is told within 100 ms; a Unix
-socket is its owner's alone, and takes the place of one that was left behind, and of nothing else; `ruffletuff stop` ends the server beside
-idle connections too; curl is answered; and a page of another origin, in Chromium, neither reads it nor stops it. What wants a package that
-isn't there is left out, which a line names (packages.py). Prints what is otherwise, and last 'N passed, M failed'; ends with 1 where one
-failed.
+name is answered; a 405, and no other answer, names the methods that its path takes; HEAD is answered as GET, without the body; another host,
+an Origin or a Sec-Fetch-Site is refused with 403, and stops nothing; none or several hosts are 400; a head is answered as soon as it ends,
+by line feeds alone too, and a connection whose head doesn't end is closed in its time; beside 50 and beside 200 connections that say nothing
+the health is told within 100 ms; a Unix socket is its owner's alone, and takes the place of one that was left behind, and of nothing else;
+`ruffletuff stop` ends the server beside idle connections too; curl is answered; and a page of another origin, in Chromium, neither reads it
+nor stops it. What wants a package that isn't there is left out, which a line names (packages.py). Prints what is otherwise, and last
+'N passed, M failed'; ends with 1 where one failed.
 """
 
 import contextlib
@@ -112,6 +112,12 @@ class Controlled(Server):
             link.send(head)
             return link.answer(method)
 
+    def text(self, head):
+        """All bytes that are answered to these, up to the end of the connection."""
+        with self.dial() as link:
+            link.send(head)
+            return b"".join(iter(lambda: link.socket.recv(65536), b""))
+
     def answer(self, head, host="127.0.0.1"):
         """The status and the text that are answered to these bytes."""
         found = self.reply(head, host)
@@ -154,23 +160,33 @@ def who_names_it_is_answered(program):
                     yield f"{field!r}: {found}"
         if (found := server.told("GET", "/metrics", "host: localhost"))[0] != 200 or b"\nruffletuff_revision " not in found[1]:
             yield f"its metrics are {found}"
-        for path, method in (("/stop", "GET"), ("/metrics", "POST"), ("/healthz", "HEAD")):
+        for path, method in (("/stop", "GET"), ("/metrics", "POST"), ("/healthz", "PUT")):
             if (found := server.told(method, path, "host: localhost", "connection: close"))[0] != 405:
                 yield f"{method} {path}: {found}"
         yield from server.stops()
 
 
 def another_method_is_told_the_right_one(program):
-    """Each 405 names the method that its path takes (RFC 9110, section 15.5.6), and no other answer does."""
+    """Each 405 names the methods that its path takes (RFC 9110, section 15.5.6), and no other answer does."""
     with Controlled(program) as server:
-        cases = [(it, "/healthz", 405, ["GET"]) for it in ("POST", "HEAD", "PUT", "OPTIONS", "get", "GETS")]
-        cases += [(it, "/metrics", 405, ["GET"]) for it in ("POST", "HEAD", "DELETE", "OPTIONS", "Get")]
+        cases = [(it, "/healthz", 405, ["GET, HEAD"]) for it in ("POST", "PUT", "OPTIONS", "get", "GETS", "head", "HEADS")]
+        cases += [(it, "/metrics", 405, ["GET, HEAD"]) for it in ("POST", "DELETE", "OPTIONS", "Get")]
         cases += [(it, "/stop", 405, ["POST"]) for it in ("GET", "HEAD", "PUT", "OPTIONS", "post", "POS")]
         cases += [("GET", "/healthz", 200, None), ("GET", "/metrics", 200, None), ("PUT", "/lost", 404, None)]
         for method, path, status, allow in cases:
             found = server.reply(f"{method} {path} HTTP/1.1\r\nhost: localhost\r\n\r\n".encode(), method=method)
             if (found.status, found.fields.get("allow")) != (status, allow):
                 yield f"{method} {path}: {found}, allow {found.fields.get('allow')}"
+        yield from server.is_there()
+
+
+def a_head_is_answered_as_get_without_a_body(program):
+    """The same status and fields, and nothing behind them (RFC 9110, section 9.3.2), also where it is refused."""
+    with Controlled(program) as server:
+        for path, fields in (("/healthz", "host: localhost"), ("/metrics", "host: localhost"), ("/stop", "host: localhost"), ("/", "host: evil")):
+            read, bare = (server.text(f"{method} {path} HTTP/1.1\r\n{fields}\r\n\r\n".encode()) for method in ("GET", "HEAD"))
+            if not bare.endswith(b"\r\n\r\n") or read.partition(b"\r\n\r\n")[0] != bare.removesuffix(b"\r\n\r\n"):
+                yield f"HEAD {path}: {bare[:200]!r}, and GET: {read[:200]!r}"
         yield from server.is_there()
 
 
@@ -428,6 +444,7 @@ def a_page_of_another_origin(program):
 ALWAYS = [
     who_names_it_is_answered,
     another_method_is_told_the_right_one,
+    a_head_is_answered_as_get_without_a_body,
     who_names_another_is_refused,
     pages_are_refused,
     one_host_is_wanted,

@@ -6,7 +6,7 @@ use crate::hosts::Hosts;
 use crate::pages::ControlAnswer;
 use crate::port::Stream;
 use crate::replies::reply_text;
-use crate::request::{MOST_OF_HEAD, answer_due, control_head_of};
+use crate::request::{ControlReply, MOST_OF_HEAD, control_head_of, reply_due};
 use crate::runtime::ControlRuntime;
 use std::alloc::{AllocError, Global};
 use std::io::{self, ErrorKind, Read, Write};
@@ -89,12 +89,12 @@ impl Connection {
         })
     }
 
-    /// Reads what has come, and returns the answer if one is due.
+    /// Reads what has come, and returns the reply if one is due.
     ///
     /// # Errors
     ///
     /// The connection's, or memory ran out.
-    fn read_head(&mut self, serves: bool) -> io::Result<Option<ControlAnswer>> {
+    fn read_head(&mut self, serves: bool) -> io::Result<Option<ControlReply>> {
         let mut part = [0u8; 512];
         for _ in 0..=MOST_OF_HEAD {
             let count = match self.stream.read(&mut part) {
@@ -105,9 +105,9 @@ impl Connection {
             self.head
                 .extend_from_slice(part.get(..count).unwrap_or_default())?;
             let heading = control_head_of(&self.head, &self.hosts, serves);
-            let answer = answer_due(heading, self.head.len(), count == 0);
-            if answer.is_some() {
-                return Ok(answer);
+            let reply = reply_due(heading, self.head.len(), count == 0);
+            if reply.is_some() {
+                return Ok(reply);
             }
         }
         Ok(None)
@@ -131,13 +131,13 @@ impl Connection {
             return Err(ErrorKind::TimedOut.into());
         }
         if self.reply.is_none()
-            && let Some(answer) = self.read_head(server.control.is_serving())?
+            && let Some(reply) = self.read_head(server.control.is_serving())?
         {
-            let body = body(rt.alloc(), answer, server.counters)?;
-            let text = reply_text(rt.alloc(), answer, &body)?;
+            let body = body(rt.alloc(), reply.answer, server.counters)?;
+            let text = reply_text(rt.alloc(), reply, &body)?;
             self.reply = Some(ReplyWriter { text, written: 0 });
             self.since = Instant::now(rt)?;
-            if answer == ControlAnswer::Stops {
+            if reply.answer == ControlAnswer::Stops {
                 server.control.set_stopping();
                 server.stop.stop();
             }

@@ -29,6 +29,6 @@ pub use hosts::Hosts;
 pub use metered::{MeteredReply, RequestTimer};
 pub use pages::{ControlAnswer, ControlMethod, answer_for};
 pub use port::{Port, PortWaker};
-pub use request::{ControlHead, answer_due, control_head_of};
+pub use request::{ControlHead, ControlReply, control_head_of, reply_due};
 pub use runtime::{ControlClientRuntime, ControlRuntime};
 pub use serving::serve_control;

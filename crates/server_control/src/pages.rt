@@ -1,6 +1,7 @@
 //! The pages of the control port, and their answers.
 ghost use Rattle.std.specs.Prelude.{◌≡◌};
-ghost use Rattle.server_control.specs.Pages.{page_of, method_of, method_name, answer_at, answer_of, status_of};
+ghost use Rattle.server_control.specs.Pages.{page_of, method_of, method_name, methods_of, is_head, as_get, answer_at};
+ghost use Rattle.server_control.specs.Pages.{answer_of, status_of};
 
 /// A page of the control port.
 #[derive(Clone, Copy, PartialEq, Eq)]
@@ -16,7 +17,7 @@ enum ControlPage {
 /// A method that a page of the control port takes.
 #[derive(Clone, Copy, Debug, PartialEq, Eq)]
 pub enum ControlMethod {
-    /// It reads.
+    /// It reads. HEAD is answered as it is.
     Get,
     /// It changes the server.
     Post,
@@ -90,6 +91,30 @@ impl ControlMethod {
             ControlMethod::Post => "POST",
         }
     }
+
+    /// The methods that a page takes which takes this one, as `allow` lists them (RFC 9110, section 10.2.1).
+    pub(crate) fn methods(self) -> &'static str
+        ensures { result.now ≡ methods_of self }
+    {
+        match self {
+            ControlMethod::Get => "GET, HEAD",
+            ControlMethod::Post => "POST",
+        }
+    }
+}
+
+/// Whether a method is HEAD.
+pub(crate) fn is_head(method: &[u8]) -> bool
+    ensures { result ≡ is_head method.now }
+{
+    method == b"HEAD".as_slice()
+}
+
+/// The method as which a method is answered: HEAD as GET (RFC 9110, section 9.3.2).
+fn as_get(method: &[u8]) -> &[u8]
+    ensures { result.now ≡ as_get method.now }
+{
+    if is_head(method) { b"GET" } else { method }
 }
 
 /// The answer to a method and a path, where the server serves or doesn't.
@@ -98,7 +123,7 @@ pub fn answer_for(method: &[u8], path: &[u8], serves: bool) -> ControlAnswer
 {
     match ControlPage::of(path) {
         Some(page) => {
-            if method == page.method().name().as_bytes() {
+            if as_get(method) == page.method().name().as_bytes() {
                 page.answer(serves)
             } else {
                 ControlAnswer::NotAllowed(page.method())

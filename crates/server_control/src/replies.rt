@@ -1,8 +1,9 @@
 //! The text of a reply.
 ghost use Rattle.std.specs.Prelude.{◌≡◌, IfOk, string_bytes};
-ghost use Rattle.server_control.specs.Replies.{status_line, allow_field, other_fields, reply_text};
+ghost use Rattle.server_control.specs.Replies.{status_line, allow_field, other_fields, content, reply_text};
 
 use crate::pages::ControlAnswer;
+use crate::request::ControlReply;
 use std::alloc::{AllocError, Global};
 
 /// The line of this status, without a reason phrase (RFC 9112, section 4).
@@ -12,15 +13,15 @@ fn status_line(alloc: Global, status: u16) -> Result<String, AllocError>
     format!(in alloc; "HTTP/1.1 {status} \r\n")
 }
 
-/// The field `allow` of a 405, which names the method that the page takes (RFC 9110, section
+/// The field `allow` of a 405, which names the methods that the page takes (RFC 9110, section
 /// 15.5.6); no other answer has it.
 fn allow_field(alloc: Global, answer: ControlAnswer) -> Result<String, AllocError>
     ensures { IfOk result (λ line. string_bytes line ≡ allow_field answer) }
 {
     match answer {
         ControlAnswer::NotAllowed(method) => {
-            let name = method.name();
-            format!(in alloc; "allow: {name}\r\n")
+            let methods = method.methods();
+            format!(in alloc; "allow: {methods}\r\n")
         }
         _ => Ok(String::new(alloc)),
     }
@@ -35,23 +36,31 @@ fn other_fields(alloc: Global, length: usize) -> Result<String, AllocError>
     )
 }
 
-/// The reply of this answer and body, after which the connection is closed (RFC 9112, section 9.6).
+/// The content of a reply with this body: none, where the body isn't sent.
+fn content(reply: ControlReply, body: &str) -> &str
+    ensures { result.now ≡ content reply body.now }
+{
+    if reply.has_body { body } else { "" }
+}
+
+/// The text of a reply whose answer has this body, after which the connection is closed (RFC 9112,
+/// section 9.6).
 ///
 /// # Errors
 ///
 /// Out of memory.
 pub(crate) fn reply_text(
     alloc: Global,
-    answer: ControlAnswer,
+    reply: ControlReply,
     body: &str,
 ) -> Result<String, AllocError>
-    ensures { IfOk result (λ text. string_bytes text ≡ reply_text answer body.now) }
+    ensures { IfOk result (λ text. string_bytes text ≡ reply_text reply body.now) }
 {
-    let allow = allow_field(alloc, answer)?;
+    let allow = allow_field(alloc, reply.answer)?;
     let fields = other_fields(alloc, body.len())?;
-    let mut text = status_line(alloc, answer.status())?;
+    let mut text = status_line(alloc, reply.answer.status())?;
     text.push_str(allow.as_str())?;
     text.push_str(fields.as_str())?;
-    text.push_str(body)?;
+    text.push_str(content(reply, body))?;
     Ok(text)
 }

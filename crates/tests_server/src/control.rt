@@ -1,7 +1,8 @@
 //! Tests of the control port over loopback.
 use server_control::{
-    CallKind, Control, ControlAnswer, ControlClientRuntime, ControlHead, Counters, Figure, Fleet,
-    Hosts, Port, StopServer, answer_due, control_head_of, metrics, serve_control, stop,
+    CallKind, Control, ControlAnswer, ControlClientRuntime, ControlHead, ControlReply, Counters,
+    Figure, Fleet, Hosts, Port, StopServer, control_head_of, metrics, reply_due, serve_control,
+    stop,
 };
 use std::alloc::{AllocError, Global};
 use std::fs;
@@ -32,7 +33,15 @@ fn zero_counters(alloc: Global) -> Result<Counters, AllocError> {
     Counters::new(alloc, connections, Vec::new(alloc))
 }
 
-/// The answer to a request of these lines at `127.0.0.1:9090`, which has the name `city` too.
+/// A reply with a body.
+fn reply(answer: ControlAnswer) -> ControlReply {
+    ControlReply {
+        answer,
+        has_body: true,
+    }
+}
+
+/// What is replied to a request of these lines at `127.0.0.1:9090`, which has the name `city` too.
 fn heading_in(alloc: Global, lines: &str) -> Result<ControlHead, AllocError> {
     let hosts = Hosts::new(alloc, "0.0.0.0", "127.0.0.1", 9090, Some("City.Example"))?;
     Ok(control_head_of(lines.as_bytes(), &hosts, true))
@@ -51,7 +60,11 @@ fn lets_in_who_names_its_host(rt: HostRuntime) -> Result<(), Fail> {
     ] {
         let lines = format!(in rt.alloc(); "GET /healthz HTTP/1.1\r\nhOsT: {host}\r\n\r\n")?;
         let found = heading_in(rt.alloc(), &lines)?;
-        assert_eq!(rt; found, ControlHead::Whole(ControlAnswer::Healthy), "{host}");
+        assert_eq!(rt;
+            found,
+            ControlHead::Whole(reply(ControlAnswer::Healthy)),
+            "{host}"
+        );
     }
     Ok(())
 }
@@ -73,7 +86,7 @@ fn refuses_another_host(rt: HostRuntime) -> Result<(), Fail> {
         let found = heading_in(rt.alloc(), &lines)?;
         assert_eq!(rt;
             found,
-            ControlHead::Whole(ControlAnswer::Forbidden),
+            ControlHead::Whole(reply(ControlAnswer::Forbidden)),
             "{host}"
         );
     }
@@ -95,13 +108,13 @@ fn refuses_a_page(rt: HostRuntime) -> Result<(), Fail> {
         let found = heading_in(rt.alloc(), &lines)?;
         assert_eq!(rt;
             found,
-            ControlHead::Whole(ControlAnswer::Forbidden),
+            ControlHead::Whole(reply(ControlAnswer::Forbidden)),
             "{field}"
         );
         let anywhere = control_head_of(lines.as_bytes(), &Hosts::Any, true);
         assert_eq!(rt;
             anywhere,
-            ControlHead::Whole(ControlAnswer::Forbidden),
+            ControlHead::Whole(reply(ControlAnswer::Forbidden)),
             "{field}"
         );
     }
@@ -123,9 +136,28 @@ fn wants_one_host(rt: HostRuntime) -> Result<(), Fail> {
         ),
     ] {
         let found = heading_in(rt.alloc(), lines)?;
-        assert_eq!(rt; found, ControlHead::Whole(wanted), "{lines}");
+        assert_eq!(rt; found, ControlHead::Whole(reply(wanted)), "{lines}");
         let anywhere = control_head_of(b"GET /healthz HTTP/1.1\r\n\r\n", &Hosts::Any, true);
-        assert_eq!(rt; anywhere, ControlHead::Whole(ControlAnswer::Healthy));
+        assert_eq!(rt; anywhere, ControlHead::Whole(reply(ControlAnswer::Healthy)));
+    }
+    Ok(())
+}
+
+/// HEAD is answered as GET, without a body (RFC 9110, section 9.3.2).
+#[test]
+fn sends_no_body_to_a_head(rt: HostRuntime) -> Result<(), Fail> {
+    for (lines, answer) in [
+        ("HEAD /healthz HTTP/1.0\r\n\r\n", ControlAnswer::Healthy),
+        ("HEAD /lost HTTP/1.0\r\n\r\n", ControlAnswer::NotFound),
+        ("HEAD /healthz HTTP/1.1\r\n\r\n", ControlAnswer::Unread),
+    ] {
+        let found = heading_in(rt.alloc(), lines)?;
+        let wanted = ControlReply {
+            answer,
+            has_body: false,
+        };
+        assert_eq!(rt; found, ControlHead::Whole(wanted), "{lines}");
+        assert!(rt; reply_due(found, 26, false) == Some(wanted));
     }
     Ok(())
 }
@@ -133,7 +165,7 @@ fn wants_one_host(rt: HostRuntime) -> Result<(), Fail> {
 #[test]
 fn ends_a_head_at_line_feeds(rt: HostRuntime) -> Result<(), Fail> {
     let whole = heading_in(rt.alloc(), "GET /healthz HTTP/1.1\nhost: localhost\n\n")?;
-    assert_eq!(rt; whole, ControlHead::Whole(ControlAnswer::Healthy));
+    assert_eq!(rt; whole, ControlHead::Whole(reply(ControlAnswer::Healthy)));
     let part = heading_in(rt.alloc(), "GET /healthz HTTP/1.1\nhost: localhost\n")?;
     assert_eq!(rt; part, ControlHead::Partial);
     let broken = heading_in(rt.alloc(), "GET\r\n\r\n")?;
@@ -143,13 +175,13 @@ fn ends_a_head_at_line_feeds(rt: HostRuntime) -> Result<(), Fail> {
 
 #[test]
 fn waits_for_the_rest_of_a_head(rt: HostRuntime) -> Result<(), Fail> {
-    assert!(rt; answer_due(ControlHead::Partial, 8192, false).is_none());
+    assert!(rt; reply_due(ControlHead::Partial, 8192, false).is_none());
     for (heading, count, is_over) in [
         (ControlHead::Partial, 8193, false),
         (ControlHead::Partial, 10, true),
         (ControlHead::Broken, 10, false),
     ] {
-        assert!(rt; answer_due(heading, count, is_over) == Some(ControlAnswer::Unread));
+        assert!(rt; reply_due(heading, count, is_over) == Some(reply(ControlAnswer::Unread)));
     }
     Ok(())
 }
@@ -178,6 +210,7 @@ fn are_right<R: ControlClientRuntime>(
     let early = reply_to(rt, address, HEALTH)?;
     control.set_serving();
     let served = reply_to(rt, address, HEALTH)?;
+    let bare = reply_to(rt, address, "HEAD /healthz HTTP/1.0\r\n\r\n")?;
     let counted = reply_to(rt, address, "GET /metrics HTTP/1.0\r\n\r\n")?;
     let lost = reply_to(rt, address, "GET /lost HTTP/1.0\r\n\r\n")?;
     let wrong = reply_to(rt, address, "GET /stop HTTP/1.0\r\n\r\n")?;
@@ -193,6 +226,7 @@ fn are_right<R: ControlClientRuntime>(
         early.starts_with(b"HTTP/1.1 503 ")
             && served.starts_with(b"HTTP/1.1 200 ")
             && served.ends_with(b"\r\n\r\nok\n")
+            && served.strip_suffix(b"ok\n".as_slice()) == Some(bare.as_slice())
             && counted.ends_with(b"\nruffletuff_answer_milliseconds_count 0\n")
             && lost.starts_with(b"HTTP/1.1 404 ")
             && wrong.starts_with(b"HTTP/1.1 405 ")
