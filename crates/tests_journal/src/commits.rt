@@ -59,7 +59,7 @@ fn reply_once_synced<K: LogName, L: Log, R: JoinRuntime>(
 
 /// Appends a payload as a publication is, and waits until it is synced: how many payloads are synced then, or `None`
 /// where that failed.
-fn publish<K: LogName, L: Log, R: Wait + AllocGlobal>(
+fn publish<K: LogName, L: Log, R: JoinRuntime>(
     rt: &R,
     keeper: &CommitLog<K, L, CountedSpace>,
     text: &[u8],
@@ -332,7 +332,7 @@ fn expect_shares_over_journal<R: TestRuntime>(rt: &R) -> Result<(), Fail> {
 }
 
 /// Appends so many payloads of a client, which wait for the flusher, or returns why they aren't reserved.
-fn append_waiting<K: LogName, L: Log, R: Wait + AllocGlobal>(
+fn append_waiting<K: LogName, L: Log, R: TestRuntime>(
     rt: &R,
     keeper: &CommitLog<K, L, CountedSpace>,
     nothing: &LogPosition<K, L>,

@@ -4,6 +4,7 @@ ghost use Rattle.std.specs.Prelude.{◌≡◌};
 ghost use Rattle.mds_snapshot.specs.Opening.{book_of};
 
 use crate::city::{BOTH, CAP, CONFIGURATION, NEW, SQUARE};
+use crate::runtime::TestRuntime;
 use mds_desk::{AuthorRoom, Desk, OpenGate, SharedReply, furnish};
 use mds_request::{Config, Request, Verb};
 use mds_snapshot::{Blank, Note, OpenFault, OpeningName, prepare};
@@ -12,7 +13,6 @@ use mds_verdict::Plain;
 use std::alloc::{AllocError, Global};
 use std::marker::Brand;
 use std::process::Abort;
-use std::sync::Wait;
 use std::test::Fail;
 
 mod looks;
@@ -173,7 +173,7 @@ trait DeskTest {
     ghost may_play: { Type 0 } = { ⊤ };
 
     /// Runs the test, and returns whether it came to its end; it doesn't where memory ran out.
-    fn run_test<K: OpeningName, R: Wait + Abort>(
+    fn run_test<K: OpeningName, R: TestRuntime>(
         &self,
         rt: &R,
         alloc: Global,
@@ -185,7 +185,7 @@ trait DeskTest {
 }
 
 /// Runs a test on a room and desks that are furnished for the configuration; false where memory ran out.
-fn furnish_and_run<S: DeskTest, R: Wait + Abort>(
+fn furnish_and_run<S: DeskTest, R: TestRuntime>(
     rt: &R,
     alloc: Global,
     scene: &S,
@@ -210,7 +210,7 @@ fn two<K: OpeningName>(rt: &impl Abort, mut desks: Vec<Desk<K>>) -> (Desk<K>, De
 }
 
 /// Runs a test, and finishes the room: a desk has no snapshot to show then.
-fn run_and_finish<K: OpeningName, S: DeskTest, R: Wait + Abort>(
+fn run_and_finish<K: OpeningName, S: DeskTest, R: TestRuntime>(
     rt: &R,
     alloc: Global,
     config: Config,
@@ -316,7 +316,7 @@ fn assert_successes(rt: &impl Abort, replies: &[SharedReply], exchanges: &[&Desk
 }
 
 /// The reply of the author's room to an exchange's request, and its note, if any.
-fn room_turn<K: OpeningName, R: Wait + Abort>(
+fn room_turn<K: OpeningName, R: TestRuntime>(
     rt: &R,
     room: &mut AuthorRoom<K>,
     exchange: &DeskExchange,
@@ -325,7 +325,7 @@ fn room_turn<K: OpeningName, R: Wait + Abort>(
 }
 
 /// Checks that the room gives the exchange's reply, and returns its note, if any.
-fn room_answers<K: OpeningName, R: Wait + Abort>(
+fn room_answers<K: OpeningName, R: TestRuntime>(
     rt: &R,
     room: &mut AuthorRoom<K>,
     exchange: &DeskExchange,
@@ -347,20 +347,20 @@ fn assert_unnoted<K: OpeningName>(
 }
 
 /// Puts both documents as drafts, which gives no note.
-fn draft<K: OpeningName, R: Wait + Abort>(rt: &R, room: &mut AuthorRoom<K>) {
+fn draft<K: OpeningName, R: TestRuntime>(rt: &R, room: &mut AuthorRoom<K>) {
     for exchange in DRAFTS {
         assert!(rt; room_answers(rt, room, exchange).is_none());
     }
 }
 
 /// Puts both documents and publishes them.
-pub(crate) fn set_up<K: OpeningName, R: Wait + Abort>(rt: &R, room: &mut AuthorRoom<K>) -> Note<K> {
+pub(crate) fn set_up<K: OpeningName, R: TestRuntime>(rt: &R, room: &mut AuthorRoom<K>) -> Note<K> {
     draft(rt, room);
     room_answers(rt, room, PUBLISH).expect(rt, "a note")
 }
 
 /// Puts both documents and publishes them, and has a desk learn of it.
-fn set_up_for<K: OpeningName, R: Wait + Abort>(
+fn set_up_for<K: OpeningName, R: TestRuntime>(
     rt: &R,
     room: &mut AuthorRoom<K>,
     desk: &mut Desk<K>,

@@ -4,6 +4,7 @@ ghost use Rattle.mds_request.specs.Configuration.{configuration};
 ghost use Rattle.mds_snapshot.specs.Opening.{book_of};
 
 use crate::city::{BOTH, CAP, CONFIGURATION, NEW, SQUARE};
+use crate::runtime::TestRuntime;
 use bytes::Bytes;
 use futures::executor::block_on;
 use http::header::{AUTHORIZATION, CONTENT_TYPE};
@@ -20,7 +21,7 @@ use std::alloc::{AllocGlobal, Global};
 use std::marker::Brand;
 use std::process::Abort;
 use std::random::RandomSource;
-use std::sync::{Arc, Wait};
+use std::sync::Arc;
 use std::test::Fail;
 use std::thread::Threads;
 
@@ -110,10 +111,15 @@ const QUESTION_OF_BRAVO: &HallExchange = &HallExchange {
     answer: NONE_COUNTED,
 };
 
-/// What tests need of the runtime, besides that threads may share it.
-trait HallRuntime: Wait + Threads + RandomSource + AllocGlobal + Abort + Copy {}
+/// What tests need of the runtime.
+trait HallRuntime: TestRuntime + Threads + RandomSource + AllocGlobal + Copy {}
 
-impl<R: Wait + Threads + RandomSource + AllocGlobal + Abort + Copy> HallRuntime for R {}
+impl<R: TestRuntime + Threads + RandomSource + AllocGlobal + Copy> HallRuntime for R {}
+
+/// The runtime of tests whose threads share it.
+trait SharedHallRuntime: HallRuntime + Sync {}
+
+impl<R: HallRuntime + Sync> SharedHallRuntime for R {}
 
 /// The test that is run on a hall.
 #[derive(Clone, Copy)]
@@ -130,14 +136,14 @@ enum HallTest {
     LargeReport,
 }
 
-fn run_hall_test<R: HallRuntime + Sync>(rt: &R, visit: HallTest) -> Result<(), Fail> {
+fn run_hall_test<R: SharedHallRuntime>(rt: &R, visit: HallTest) -> Result<(), Fail> {
     let alloc = rt.alloc();
     let config = Config::read(alloc, CONFIGURATION)?;
     let blank = prepare(alloc)?;
     open_and_run::<Brand, R>(rt, alloc, config, blank, visit)
 }
 
-fn open_and_run<K: SharedHallName, R: HallRuntime + Sync>(
+fn open_and_run<K: SharedHallName, R: SharedHallRuntime>(
     rt: &R,
     alloc: Global,
     config: Config,
@@ -237,7 +243,7 @@ fn is_answer<R: HallRuntime>(rt: &R, response: HttpResult, answer: &ExpectedAnsw
 
 /// Whether the hall gives this answer to a head, if there is one, with this body. Vehicles are evaluated by several
 /// threads.
-fn gives<K: HallName, R: HallRuntime + Sync>(
+fn gives<K: HallName, R: SharedHallRuntime>(
     rt: &R,
     hall: &Hall<K>,
     parts: Option<Parts>,
@@ -253,7 +259,7 @@ fn gives<K: HallName, R: HallRuntime + Sync>(
 }
 
 /// Whether the hall gives the exchange's answer to its request with this method.
-fn answers<K: HallName, R: HallRuntime + Sync>(
+fn answers<K: HallName, R: SharedHallRuntime>(
     rt: &R,
     alloc: Global,
     hall: &Hall<K>,
@@ -267,7 +273,7 @@ fn answers<K: HallName, R: HallRuntime + Sync>(
 }
 
 /// Checks that the hall gives the exchange's answer to its request with this method.
-fn assert_answers<K: HallName, R: HallRuntime + Sync>(
+fn assert_answers<K: HallName, R: SharedHallRuntime>(
     rt: &R,
     alloc: Global,
     hall: &Hall<K>,
@@ -279,7 +285,7 @@ fn assert_answers<K: HallName, R: HallRuntime + Sync>(
 }
 
 /// Puts the policy and its square as drafts and publishes them, at 1000.
-fn set_up<K: HallName, R: HallRuntime + Sync>(rt: &R, alloc: Global, hall: &Hall<K>) {
+fn set_up<K: HallName, R: SharedHallRuntime>(rt: &R, alloc: Global, hall: &Hall<K>) {
     for exchange in DRAFTS {
         assert_answers(rt, alloc, hall, Method::PUT, exchange);
     }

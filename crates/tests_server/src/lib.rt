@@ -27,6 +27,8 @@ mod queues;
 #[cfg(test)]
 mod responses;
 #[cfg(test)]
+mod runtime;
+#[cfg(test)]
 mod snapshot;
 #[cfg(test)]
 mod waiting;

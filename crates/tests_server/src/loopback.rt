@@ -10,7 +10,7 @@ use server_admission::Moments;
 use server_http::{ConnectionRuntime, Queues, bind_first};
 use server_start::{HallService, serve};
 use server_state::{Hall, SharedHallName};
-use std::alloc::{AllocGlobal, Global};
+use std::alloc::Global;
 use std::io::{self, Read, Write};
 use std::marker::Brand;
 use std::net::{Net, SocketAddr, TcpStream};
@@ -133,12 +133,12 @@ struct LoopbackClient {
 }
 
 /// Opens a connection for an exchange.
-fn open_client<R: Net<Stream = TcpStream> + AllocGlobal>(
+fn open_client<R: Net<Stream = TcpStream>>(
     rt: &R,
+    alloc: Global,
     address: SocketAddr,
     exchange: &LoopbackExchange,
 ) -> io::Result<LoopbackClient> {
-    let alloc = rt.alloc();
     Ok(LoopbackClient {
         stream: TcpStream::connect(rt, address)?,
         request: format!(in alloc;
@@ -172,14 +172,15 @@ fn are_answered(alloc: Global, mut clients: Vec<LoopbackClient>) -> bool {
 }
 
 /// Opens a connection for each exchange.
-fn clients_of<R: Net<Stream = TcpStream> + AllocGlobal>(
+fn clients_of<R: Net<Stream = TcpStream>>(
     rt: &R,
+    alloc: Global,
     address: SocketAddr,
     exchanges: &[LoopbackExchange],
 ) -> io::Result<Vec<LoopbackClient>> {
-    let mut clients = Vec::with_capacity(rt.alloc(), exchanges.len())?;
+    let mut clients = Vec::with_capacity(alloc, exchanges.len())?;
     for exchange in exchanges {
-        clients.push(open_client(rt, address, exchange)?)?;
+        clients.push(open_client(rt, alloc, address, exchange)?)?;
     }
     Ok(clients)
 }
@@ -192,24 +193,16 @@ struct LoopbackSetup {
     clients: Vec<LoopbackClient>,
 }
 
-/// A listener on a free port, and its clients.
-fn listen_with_clients<R: Net<Stream = TcpStream> + AllocGlobal>(
+/// The runtime with a listener on a free port, and its clients.
+fn listen_with_clients<R: Net<Stream = TcpStream>>(
     rt: &R,
-    runtime: &Runtime,
+    alloc: Global,
+    runtime: Runtime,
     exchanges: &[LoopbackExchange],
-) -> io::Result<(TcpListener, Vec<LoopbackClient>)> {
+) -> io::Result<LoopbackSetup> {
     let listener = bind_first(rt, "127.0.0.1:0", runtime.handle().reactor())?;
     let address = listener.local_addr()?;
-    let clients = clients_of(rt, address, exchanges)?;
-    Ok((listener, clients))
-}
-
-fn setup_of<R>(rt: &R, exchanges: &[LoopbackExchange]) -> io::Result<LoopbackSetup>
-where
-    R: LoopbackRuntime + Net<Stream = TcpStream>,
-{
-    let runtime = Runtime::with_worker_threads(rt, 2)?;
-    let (listener, clients) = listen_with_clients(rt, &runtime, exchanges)?;
+    let clients = clients_of(rt, alloc, address, exchanges)?;
     Ok(LoopbackSetup {
         runtime,
         listener,
@@ -219,18 +212,16 @@ where
 
 /// Serves one of the scripts. The hall is made once all else is there, so that no earlier failure
 /// leaves one to finish.
-fn serve_script<K: SharedHallName, R>(
+fn serve_script<K: SharedHallName, R: LoopbackRuntime>(
     rt: &R,
+    scene: LoopbackSetup,
     config: Config,
     blank: Blank,
     script: Script,
 ) -> Result<(), Fail>
-where
-    R: LoopbackRuntime + Net<Stream = TcpStream>,
     requires book { book_of blank ≡ K.book }
     requires configured { configuration config ≡ K.configuration }
 {
-    let scene = setup_of(rt, script.exchanges())?;
     let queues = Queues::new(rt.alloc(), &config)?;
     let hall = Hall::<K>::new(rt, rt.alloc(), config, blank)?;
     let (wanted, served) = send_and_serve(rt, scene, hall, queues, script.clock());
@@ -240,16 +231,13 @@ where
 }
 
 /// Sends the requests, and serves concurrently.
-fn send_and_serve<K: SharedHallName, R>(
+fn send_and_serve<K: SharedHallName, R: LoopbackRuntime>(
     rt: &R,
     scene: LoopbackSetup,
     hall: Hall<K>,
     queues: Queues,
     moments: FixedClock,
-) -> (bool, io::Result<()>)
-where
-    R: LoopbackRuntime + Net<Stream = TcpStream>,
-{
+) -> (bool, io::Result<()>) {
     let LoopbackSetup {
         mut runtime,
         listener,
@@ -269,9 +257,11 @@ fn run_script<R>(rt: &R, script: Script) -> Result<(), Fail>
 where
     R: LoopbackRuntime + Net<Stream = TcpStream>,
 {
+    let runtime = Runtime::with_worker_threads(rt, 2)?;
+    let scene = listen_with_clients(rt, rt.alloc(), runtime, script.exchanges())?;
     let config = Config::read(rt.alloc(), CONFIGURATION)?;
     let blank = prepare(rt.alloc())?;
-    serve_script::<Brand, _>(rt, config, blank, script)
+    serve_script::<Brand, _>(rt, scene, config, blank, script)
 }
 
 /// A policy is published, and an operator asks for compliance.

@@ -2,6 +2,7 @@
 ghost use Rattle.std.specs.Prelude.{◌≡◌};
 ghost use Rattle.mds_snapshot.specs.Opening.{book_of};
 
+use crate::runtime::TestRuntime;
 use mds_catalog::{Batch, Catalogue};
 use mds_geography::Geography;
 use mds_policy::Policy;
@@ -10,7 +11,7 @@ use mds_text::{Id, Moment};
 use std::alloc::{AllocError, Global};
 use std::marker::Brand;
 use std::process::Abort;
-use std::sync::{Arc, Wait};
+use std::sync::Arc;
 use std::test::Fail;
 
 const G1: &str = "00000000-0000-4000-8000-000000000101";
@@ -77,7 +78,7 @@ fn both(alloc: Global) -> Option<(Arc<Batch>, Arc<Batch>)> {
 }
 
 /// Publishes a batch, once it is checked to be lawful.
-fn publish<K: OpeningName, R: Wait + Abort>(
+fn publish<K: OpeningName, R: TestRuntime>(
     rt: &R,
     publisher: &mut Publisher<K>,
     batch: &Arc<Batch>,
@@ -87,7 +88,7 @@ fn publish<K: OpeningName, R: Wait + Abort>(
 }
 
 /// Publishes a batch, once it is checked to be lawful. Publishing needs no memory.
-fn publish_lawful<K: OpeningName, R: Wait + Abort>(
+fn publish_lawful<K: OpeningName, R: TestRuntime>(
     rt: &R,
     publisher: &mut Publisher<K>,
     batch: &Arc<Batch>,
@@ -131,7 +132,7 @@ fn notes_reach_each_pane(rt: HostRuntime) -> Result<(), Fail> {
     open_two_panes::<Brand, _>(&rt, rt.alloc(), blank)
 }
 
-fn open_two_panes<K: OpeningName, R: Wait + Abort>(
+fn open_two_panes<K: OpeningName, R: TestRuntime>(
     rt: &R,
     alloc: Global,
     blank: Blank,
@@ -151,7 +152,7 @@ fn unpublished_pane<K: OpeningName>(rt: &impl Abort, panes: &mut Vec<Pane<K>>) -
     expect_shown(rt, panes.pop().expect(rt, "a pane"), 0)
 }
 
-fn in_turn<K: OpeningName, R: Wait + Abort>(
+fn in_turn<K: OpeningName, R: TestRuntime>(
     rt: &R,
     publisher: &mut Publisher<K>,
     mut panes: Vec<Pane<K>>,
@@ -168,7 +169,7 @@ fn in_turn<K: OpeningName, R: Wait + Abort>(
 }
 
 /// Checks that an older note takes nothing away from what a pane learnt.
-fn learn_late<K: OpeningName, R: Wait + Abort>(
+fn learn_late<K: OpeningName, R: TestRuntime>(
     rt: &R,
     publisher: &mut Publisher<K>,
     batch: &Arc<Batch>,
@@ -193,7 +194,7 @@ fn survives_out_of_memory(rt: HostRuntime) -> Result<(), Fail> {
 }
 
 /// Prepares a blank, at the second try at the latest, and opens it.
-fn prepare_at_last<R: Wait + Abort>(
+fn prepare_at_last<R: TestRuntime>(
     rt: &R,
     alloc: Global,
     batches: &(Arc<Batch>, Arc<Batch>),
@@ -206,7 +207,7 @@ fn prepare_at_last<R: Wait + Abort>(
     Ok(())
 }
 
-fn open_or_out_of_memory<K: OpeningName, R: Wait + Abort>(
+fn open_or_out_of_memory<K: OpeningName, R: TestRuntime>(
     rt: &R,
     alloc: Global,
     blank: Blank,
@@ -226,7 +227,7 @@ fn open_or_out_of_memory<K: OpeningName, R: Wait + Abort>(
 }
 
 /// Publishes a batch, has each pane learn of it, and returns one of the panes.
-fn at_each_pane<K: OpeningName, R: Wait + Abort>(
+fn at_each_pane<K: OpeningName, R: TestRuntime>(
     rt: &R,
     publisher: &mut Publisher<K>,
     mut panes: Vec<Pane<K>>,
@@ -243,7 +244,7 @@ fn at_each_pane<K: OpeningName, R: Wait + Abort>(
 }
 
 /// Checks that a closed publisher refuses every batch, and keeps its list and its catalogue.
-fn expect_refusals<K: OpeningName, R: Wait + Abort>(
+fn expect_refusals<K: OpeningName, R: TestRuntime>(
     rt: &R,
     closed: &mut Publisher<K>,
     pane: Pane<K>,

@@ -37,7 +37,7 @@ const QUESTIONS: &[&DeskExchange; 2] = &[GEOGRAPHIES, POLICIES];
 struct EachLook;
 
 impl DeskTest for EachLook {
-    fn run_test<K: OpeningName, R: Wait + Abort>(
+    fn run_test<K: OpeningName, R: TestRuntime>(
         &self,
         rt: &R,
         _alloc: Global,
@@ -87,7 +87,7 @@ fn assert_goes_on<K: OpeningName>(rt: &impl Abort, desk: &mut Desk<K>) {
 struct PublicationBetween;
 
 impl DeskTest for PublicationBetween {
-    fn run_test<K: OpeningName, R: Wait + Abort>(
+    fn run_test<K: OpeningName, R: TestRuntime>(
         &self,
         rt: &R,
         _alloc: Global,
@@ -125,7 +125,7 @@ const NOWHERE: &DeskExchange = &DeskExchange {
 struct WithoutALook;
 
 impl DeskTest for WithoutALook {
-    fn run_test<K: OpeningName, R: Wait + Abort>(
+    fn run_test<K: OpeningName, R: TestRuntime>(
         &self,
         rt: &R,
         _alloc: Global,

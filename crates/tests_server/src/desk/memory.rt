@@ -6,7 +6,7 @@ use mds_parallel::Chunked;
 use mds_verdict::Evaluator;
 
 /// Runs a test, a second time where the first ran out of memory.
-fn furnish_and_run_at_last<S: DeskTest, R: Wait + Abort>(
+fn furnish_and_run_at_last<S: DeskTest, R: TestRuntime>(
     rt: &R,
     alloc: Global,
     scene: &S,
@@ -21,7 +21,7 @@ fn furnish_and_run_at_last<S: DeskTest, R: Wait + Abort>(
 
 /// The room's reply to a request of the author, and its note; those of a second try where the first was refused out
 /// of memory, which gives no note.
-fn room_turn_at_last<K: OpeningName, R: Wait + Abort>(
+fn room_turn_at_last<K: OpeningName, R: TestRuntime>(
     rt: &R,
     room: &mut AuthorRoom<K>,
     exchange: &DeskExchange,
@@ -35,7 +35,7 @@ fn room_turn_at_last<K: OpeningName, R: Wait + Abort>(
 }
 
 /// Checks that the room gives the exchange's reply, at the second try at the latest, and returns its note, if any.
-fn room_answers_at_last<K: OpeningName, R: Wait + Abort>(
+fn room_answers_at_last<K: OpeningName, R: TestRuntime>(
     rt: &R,
     room: &mut AuthorRoom<K>,
     exchange: &DeskExchange,
@@ -46,7 +46,7 @@ fn room_answers_at_last<K: OpeningName, R: Wait + Abort>(
 }
 
 /// Puts both documents and publishes them, each at the second try at the latest.
-fn set_up_at_last<K: OpeningName, R: Wait + Abort>(rt: &R, room: &mut AuthorRoom<K>) -> Note<K> {
+fn set_up_at_last<K: OpeningName, R: TestRuntime>(rt: &R, room: &mut AuthorRoom<K>) -> Note<K> {
     assert!(rt; room_answers_at_last(rt, room, PUT_SQUARE).is_none());
     assert!(rt; room_answers_at_last(rt, room, PUT_CAP).is_none());
     room_answers_at_last(rt, room, PUBLISH).expect(rt, "a note")
@@ -91,7 +91,7 @@ struct AnswerTest<'a, E> {
 impl<E: Evaluator<Catalogue>> DeskTest for AnswerTest<'_, E> {
     ghost may_play = { E.may_judge };
 
-    fn run_test<K: OpeningName, R: Wait + Abort>(
+    fn run_test<K: OpeningName, R: TestRuntime>(
         &self,
         rt: &R,
         _alloc: Global,
@@ -171,7 +171,7 @@ struct RunTest<'a, E> {
 impl<E: Evaluator<Catalogue>> DeskTest for RunTest<'_, E> {
     ghost may_play = { E.may_judge };
 
-    fn run_test<K: OpeningName, R: Wait + Abort>(
+    fn run_test<K: OpeningName, R: TestRuntime>(
         &self,
         rt: &R,
         _alloc: Global,

@@ -6,13 +6,14 @@ use super::looks::{EMPTY, POLICIES};
 use super::*;
 use crate::waiting::is_set_in_time;
 use mds_desk::Gate;
+use std::sync::Wait;
 use std::sync::atomic::{AtomicBool, Ordering};
 use std::thread::{Threads, join};
 
-/// What tests need of the runtime.
-trait DeskRuntime: Threads + Wait + Abort {}
+/// The runtime of a test whose threads overlap.
+trait DeskRuntime: TestRuntime + Threads {}
 
-impl<R: Threads + Wait + Abort> DeskRuntime for R {}
+impl<R: TestRuntime + Threads> DeskRuntime for R {}
 
 /// The name of an opening that several threads have.
 trait SharedOpeningName: OpeningName + Send + Sync {}
@@ -108,7 +109,7 @@ fn answer_meanwhile<K: OpeningName>(desk: &mut Desk<K>, signals: &Signals) -> Op
 }
 
 /// Puts both documents and publishes them, and has both desks learn of it.
-fn set_up_for_both<K: OpeningName, R: Wait + Abort>(
+fn set_up_for_both<K: OpeningName, R: TestRuntime>(
     rt: &R,
     room: &mut AuthorRoom<K>,
     alfa: &mut Desk<K>,

@@ -26,7 +26,7 @@ const TOO_EARLY: &DeskExchange = &DeskExchange {
 struct AnotherToken;
 
 impl DeskTest for AnotherToken {
-    fn run_test<K: OpeningName, R: Wait + Abort>(
+    fn run_test<K: OpeningName, R: TestRuntime>(
         &self,
         rt: &R,
         _alloc: Global,
@@ -50,7 +50,7 @@ fn another_token_is_refused(rt: HostRuntime) -> Result<(), Fail> {
 struct FirstSession;
 
 impl DeskTest for FirstSession {
-    fn run_test<K: OpeningName, R: Wait + Abort>(
+    fn run_test<K: OpeningName, R: TestRuntime>(
         &self,
         rt: &R,
         _alloc: Global,
@@ -73,7 +73,7 @@ fn answers_a_first_session(rt: HostRuntime) -> Result<(), Fail> {
 struct MomentsGoBack;
 
 impl DeskTest for MomentsGoBack {
-    fn run_test<K: OpeningName, R: Wait + Abort>(
+    fn run_test<K: OpeningName, R: TestRuntime>(
         &self,
         rt: &R,
         _alloc: Global,
@@ -105,7 +105,7 @@ const SERVED: &[&DeskExchange; 2] = &[GEOGRAPHIES, POLICY];
 struct ServedDocuments;
 
 impl DeskTest for ServedDocuments {
-    fn run_test<K: OpeningName, R: Wait + Abort>(
+    fn run_test<K: OpeningName, R: TestRuntime>(
         &self,
         rt: &R,
         _alloc: Global,
@@ -130,7 +130,7 @@ fn serves_what_it_learnt(rt: HostRuntime) -> Result<(), Fail> {
 struct GivenEvaluator;
 
 impl DeskTest for GivenEvaluator {
-    fn run_test<K: OpeningName, R: Wait + Abort>(
+    fn run_test<K: OpeningName, R: TestRuntime>(
         &self,
         rt: &R,
         _alloc: Global,

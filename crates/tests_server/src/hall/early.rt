@@ -28,7 +28,7 @@ const NOWHERE: &str = "/nowhere";
 const NOBODY: &str = "Bearer nobody";
 
 /// Whether alfa's question with this body has this answer.
-fn answers_alfa<K: HallName, R: HallRuntime + Sync>(
+fn answers_alfa<K: HallName, R: SharedHallRuntime>(
     rt: &R,
     alloc: Global,
     hall: &Hall<K>,
@@ -40,7 +40,7 @@ fn answers_alfa<K: HallName, R: HallRuntime + Sync>(
     gives(rt, hall, parts, arrived, at, answer)
 }
 
-pub(super) fn each_arrival<K: HallName, R: HallRuntime + Sync>(
+pub(super) fn each_arrival<K: HallName, R: SharedHallRuntime>(
     rt: &R,
     alloc: Global,
     hall: &Hall<K>,
@@ -90,7 +90,7 @@ fn spaces(alloc: Global, length: usize) -> Result<Arrived, AllocError> {
 }
 
 /// Whether an anonymous request with a body of so many spaces has this answer.
-fn answers_nobody<K: HallName, R: HallRuntime + Sync>(
+fn answers_nobody<K: HallName, R: SharedHallRuntime>(
     rt: &R,
     alloc: Global,
     hall: &Hall<K>,
@@ -104,7 +104,7 @@ fn answers_nobody<K: HallName, R: HallRuntime + Sync>(
     gives(rt, hall, parts, spaces, Moment::new(2000), answer)
 }
 
-pub(super) fn large_and_unknown<K: HallName, R: HallRuntime + Sync>(
+pub(super) fn large_and_unknown<K: HallName, R: SharedHallRuntime>(
     rt: &R,
     alloc: Global,
     hall: &Hall<K>,
@@ -124,7 +124,7 @@ const NO_ROUTE: &ExpectedAnswer = &ExpectedAnswer {
 };
 
 /// Whether a request for a path of no call, with these credentials, is refused with `no_route`.
-fn finds_nowhere<K: HallName, R: HallRuntime + Sync>(
+fn finds_nowhere<K: HallName, R: SharedHallRuntime>(
     rt: &R,
     alloc: Global,
     hall: &Hall<K>,
@@ -135,7 +135,7 @@ fn finds_nowhere<K: HallName, R: HallRuntime + Sync>(
 }
 
 /// Checks refusals while the locks of alfa's desk and of the author's room are held.
-pub(super) fn refusals_under_locks<K: HallName, R: HallRuntime + Sync>(
+pub(super) fn refusals_under_locks<K: HallName, R: SharedHallRuntime>(
     rt: &R,
     alloc: Global,
     hall: &Hall<K>,

@@ -84,7 +84,7 @@ impl<K: HallName, R: HallRuntime> HallJob for HeldQuestion<'_, K, R> {
 }
 
 /// Whether bravo's question and then the author's draft are answered while alfa's question is held.
-fn are_answered<K: HallName, R: HallRuntime + Sync>(
+fn are_answered<K: HallName, R: SharedHallRuntime>(
     rt: &R,
     alloc: Global,
     hall: &Hall<K>,
@@ -99,7 +99,7 @@ fn are_answered<K: HallName, R: HallRuntime + Sync>(
     all
 }
 
-pub(super) fn during_a_held_question<K: SharedHallName, R: HallRuntime + Sync>(
+pub(super) fn during_a_held_question<K: SharedHallName, R: SharedHallRuntime>(
     rt: &R,
     alloc: Global,
     hall: &Hall<K>,

@@ -47,7 +47,7 @@ const QUESTIONS: &[&HallExchange] = &[
 ];
 
 /// Alfa has a vehicle in the square, and bravo has none.
-pub(super) fn own_questions<K: HallName, R: HallRuntime + Sync>(
+pub(super) fn own_questions<K: HallName, R: SharedHallRuntime>(
     rt: &R,
     alloc: Global,
     hall: &Hall<K>,
@@ -78,7 +78,7 @@ const WITHDRAWAL: &HallExchange = &HallExchange {
 
 /// Checks that there is no note before the first publication and one after it, that a further publication's note
 /// covers more, and that a further call gives the same note.
-pub(super) fn latest_note<K: HallName, R: HallRuntime + Sync>(
+pub(super) fn latest_note<K: HallName, R: SharedHallRuntime>(
     rt: &R,
     alloc: Global,
     hall: &Hall<K>,
@@ -100,7 +100,7 @@ fn keeps_the_latest_note(rt: HostRuntime) -> Result<(), Fail> {
 }
 
 /// Checks that bravo's question is evaluated by the given evaluator.
-pub(super) fn given_evaluator<K: HallName, R: HallRuntime + Sync>(
+pub(super) fn given_evaluator<K: HallName, R: SharedHallRuntime>(
     rt: &R,
     alloc: Global,
     hall: &Hall<K>,
@@ -143,7 +143,7 @@ const CREDENTIALS: &[(&str, &ExpectedAnswer)] = &[
 ];
 
 /// Whether a request for vehicles, with this head, has this answer.
-fn lists<K: HallName, R: HallRuntime + Sync>(
+fn lists<K: HallName, R: SharedHallRuntime>(
     rt: &R,
     alloc: Global,
     hall: &Hall<K>,
@@ -165,7 +165,7 @@ fn head_with_two_credentials(alloc: Global) -> Option<Parts> {
 }
 
 /// Checks the answer to each of `CREDENTIALS`, and that two fields with credentials are nobody's.
-pub(super) fn each_form<K: HallName, R: HallRuntime + Sync>(rt: &R, alloc: Global, hall: &Hall<K>) {
+pub(super) fn each_form<K: HallName, R: SharedHallRuntime>(rt: &R, alloc: Global, hall: &Hall<K>) {
     for (credentials, answer) in CREDENTIALS {
         let asked = parts(alloc, Method::GET, ALL_VEHICLES, Some(credentials));
         let is_answered = lists(rt, alloc, hall, asked, answer);
@@ -187,7 +187,7 @@ fn answers_at_a_desk(rt: HostRuntime) -> Result<(), Fail> {
     at_desk::<Brand, _>(&rt, alloc, config, prepare(alloc)?)
 }
 
-fn at_desk<K: OpeningName, R: HallRuntime + Sync>(
+fn at_desk<K: OpeningName, R: SharedHallRuntime>(
     rt: &R,
     alloc: Global,
     config: Config,
@@ -206,7 +206,7 @@ fn at_desk<K: OpeningName, R: HallRuntime + Sync>(
 }
 
 /// Whether a desk that is given a note answers so to a question at 2000.
-fn desk_answers<K: OpeningName, R: HallRuntime + Sync>(
+fn desk_answers<K: OpeningName, R: SharedHallRuntime>(
     rt: &R,
     alloc: Global,
     credentials: Option<&str>,
@@ -235,7 +235,7 @@ fn desk_answers<K: OpeningName, R: HallRuntime + Sync>(
 }
 
 /// Checks the answers to a question by alfa and to one by an anonymous client.
-fn two_questions<K: OpeningName, R: HallRuntime + Sync>(
+fn two_questions<K: OpeningName, R: SharedHallRuntime>(
     rt: &R,
     alloc: Global,
     desk: &mut Desk<K>,
