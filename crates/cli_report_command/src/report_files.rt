@@ -1,9 +1,10 @@
 //! The files of a report: each has another name until all of them are whole.
 
+use cli_host::FileHost;
 use cli_journal::{ExitCause, REPORT_FILES, ReportFault, ReportFile};
 use journal_folder::sync_names;
 use std::alloc::{AllocError, AllocGlobal};
-use std::fs::{self, File, Files};
+use std::fs::{self, File};
 use std::io::{ErrorKind, Write};
 
 /// The path of a file of a report.
@@ -21,10 +22,7 @@ fn part_path<R: AllocGlobal>(rt: &R, folder: &str, file: ReportFile) -> Result<S
 /// # Errors
 ///
 /// `Report` with `NoFolder` or `Present`; `NoMemory`.
-pub fn check_folder<R: Files<File = File> + AllocGlobal>(
-    rt: &R,
-    folder: &str,
-) -> Result<(), ExitCause> {
+pub fn check_folder<R: FileHost>(rt: &R, folder: &str) -> Result<(), ExitCause> {
     match fs::metadata(rt, folder) {
         Ok(found) if found.is_dir() => {}
         _ => return Err(ExitCause::Report(ReportFault::NoFolder)),
@@ -41,7 +39,7 @@ pub fn check_folder<R: Files<File = File> + AllocGlobal>(
 }
 
 /// Removes what is left of a report that wasn't finished, if that can be done.
-pub fn clear_parts<R: Files<File = File> + AllocGlobal>(rt: &R, folder: &str) {
+pub fn clear_parts<R: FileHost>(rt: &R, folder: &str) {
     for file in &REPORT_FILES {
         if let Ok(path) = part_path(rt, folder, *file) {
             let _ = fs::remove_file(rt, path.as_str());
@@ -50,7 +48,7 @@ pub fn clear_parts<R: Files<File = File> + AllocGlobal>(rt: &R, folder: &str) {
 }
 
 /// Makes a new file for a part of a report. What another report left at its path is removed.
-fn create_part<R: Files<File = File> + AllocGlobal>(
+fn create_part<R: FileHost>(
     rt: &R,
     folder: &str,
     file: ReportFile,
@@ -100,10 +98,7 @@ impl ReportFiles {
     /// # Errors
     ///
     /// `Report` with `NotWritten`; `NoMemory`.
-    pub fn create<R: Files<File = File> + AllocGlobal>(
-        rt: &R,
-        folder: &str,
-    ) -> Result<ReportFiles, ExitCause> {
+    pub fn create<R: FileHost>(rt: &R, folder: &str) -> Result<ReportFiles, ExitCause> {
         Ok(ReportFiles {
             verdicts: create_part(rt, folder, ReportFile::Verdicts)?,
             summary: create_part(rt, folder, ReportFile::Summary)?,
@@ -141,11 +136,7 @@ impl ReportFiles {
     /// # Errors
     ///
     /// `Report` with `Present` where one of the names was given to another file meanwhile, or `NotWritten`; `NoMemory`.
-    pub fn finish<R: Files<File = File> + AllocGlobal>(
-        self,
-        rt: &R,
-        folder: &str,
-    ) -> Result<(), ExitCause> {
+    pub fn finish<R: FileHost>(self, rt: &R, folder: &str) -> Result<(), ExitCause> {
         self.sync()?;
         check_folder(rt, folder)?;
         for (number, file) in REPORT_FILES.iter().enumerate() {
@@ -162,7 +153,7 @@ impl ReportFiles {
 }
 
 /// Gives a file of a report its name.
-fn name_file<R: Files<File = File> + AllocGlobal>(
+fn name_file<R: FileHost>(
     rt: &R,
     folder: &str,
     file: ReportFile,
@@ -176,7 +167,7 @@ fn name_file<R: Files<File = File> + AllocGlobal>(
 }
 
 /// Removes files of a report that is given up, if that can be done.
-fn clear_files<R: Files<File = File> + AllocGlobal>(rt: &R, folder: &str, files: &[ReportFile]) {
+fn clear_files<R: FileHost>(rt: &R, folder: &str, files: &[ReportFile]) {
     for file in files {
         if let Ok(path) = path_of(rt, folder, *file) {
             let _ = fs::remove_file(rt, path.as_str());

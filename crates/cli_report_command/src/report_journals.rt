@@ -1,12 +1,12 @@
 //! The journals of a report: they are read once, and their entries lie in the bytes that were read.
 
 use crate::report_samples::ReportJournal;
+use cli_host::FileHost;
 use cli_journal::ExitCause;
 use journal_entry::JournalEntry;
 use journal_folder::{journal_bytes, lent_entries_in, startable_texts, suits};
 use mds_request::Config;
-use std::alloc::{AllocError, AllocGlobal, Global};
-use std::fs::{File, Files};
+use std::alloc::{AllocError, Global};
 
 /// Adds something behind others.
 fn add<T: Drop>(all: &mut Vec<T>, next: T) -> Result<(), AllocError> {
@@ -19,10 +19,7 @@ fn add<T: Drop>(all: &mut Vec<T>, next: T) -> Result<(), AllocError> {
 /// # Errors
 ///
 /// `ReportFolder` with the first whose journal can't be read, `NoMemory`.
-pub fn read_journals<R: Files<File = File> + AllocGlobal>(
-    rt: &R,
-    folders: &[String],
-) -> Result<Vec<Vec<u8>>, ExitCause> {
+pub fn read_journals<R: FileHost>(rt: &R, folders: &[String]) -> Result<Vec<Vec<u8>>, ExitCause> {
     let mut all = Vec::with_capacity(rt.alloc(), folders.len())?;
     for (number, folder) in folders.iter().enumerate() {
         match journal_bytes(rt, rt.alloc(), folder.as_str()) {

@@ -3,6 +3,7 @@ ghost use Rattle.std.specs.Prelude.{◌≡◌, ◌<◌, ◌≤◌, ℕ, All, IfO
 ghost use Rattle.mds_request.specs.Configuration.{configuration};
 ghost use Rattle.cli_report_command.specs.Parts.{IsPartOf};
 
+use crate::host::ReportHost;
 use crate::report_files::{ReportBytes, ReportFiles};
 use crate::report_rows::{operator_report, report_end, report_head};
 use crate::report_samples::{JournalFault, OperatorSamples, ReportJournal, sample_operator};
@@ -13,7 +14,7 @@ use journal_samples::SampleFault;
 use mds_request::Config;
 use mds_text::Moment;
 use server_app::OperatorNames;
-use std::alloc::{AllocError, AllocGlobal, Global};
+use std::alloc::{AllocError, Global};
 use std::io::Eprint;
 use std::thread::{Threads, available_parallelism, map_indices};
 
@@ -115,7 +116,7 @@ fn part_of(
 /// # Errors
 ///
 /// Memory ran out.
-fn parts_of<R: Threads + Sync>(
+fn parts_of<R: ReportHost>(
     rt: &R,
     alloc: Global,
     source: &ReportSource<'_>,
@@ -181,7 +182,7 @@ fn append_parts<R: Eprint>(
 /// # Errors
 ///
 /// `ReportEntry`, `Report` with `NotWritten`, `NoMemory`.
-pub fn append_operators<R: Eprint + Threads + Sync + AllocGlobal>(
+pub fn append_operators<R: ReportHost>(
     rt: &R,
     files: &mut ReportFiles,
     source: &ReportSource<'_>,

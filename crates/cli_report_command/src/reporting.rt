@@ -6,12 +6,14 @@ ghost use Rattle.cli_calendar.specs.Moments.{moments_between};
 ghost use Rattle.cli_report_command.specs.Heads.{last_of, noun};
 ghost use Rattle.cli_report_command.specs.Reports.{is_reported, reported_places};
 
+use crate::host::ReportHost;
 use crate::report_city::{ReportCity, city_of};
 use crate::report_files::{ReportFiles, check_folder, clear_parts};
 use crate::report_journals::{journals_in, read_journals};
 use crate::report_operators::{ReportSource, append_operators};
 use cli_args::{COMMIT, ReportOptions, VERSION, version_line};
 use cli_calendar::{moment_in, moments_between};
+use cli_host::FileHost;
 use cli_journal::{
     ConfigFile, ExitCause, ReportFault, configuration_in, operator_names_in, span_of,
 };
@@ -19,10 +21,8 @@ use cli_report::{ReportHead, ReportSpan};
 use mds_request::{Config, Operator};
 use mds_text::{Id, Moment};
 use server_admission::{MachineClock, Moments};
-use std::alloc::{AllocError, AllocGlobal, Global};
-use std::fs::{File, Files};
-use std::io::{Eprint, Print};
-use std::thread::Threads;
+use std::alloc::{AllocError, Global};
+use std::io::Print;
 use std::time::Clock;
 
 /// The milliseconds of a minute.
@@ -153,7 +153,7 @@ fn reported_places(
 /// # Errors
 ///
 /// As `append_operators`, and `Report` with `Present` where the folder came to have one of the files meanwhile.
-fn write_report<R: Files<File = File> + Eprint + Threads + Sync + AllocGlobal>(
+fn write_report<R: ReportHost>(
     rt: &R,
     folder: &str,
     source: &ReportSource<'_>,
@@ -205,10 +205,7 @@ fn print_counts<R: Print>(
 /// # Errors
 ///
 /// `Misconfigured` where the file can't be read or is too long, `NoMemory`.
-fn read_city<R: Files<File = File> + AllocGlobal>(
-    rt: &R,
-    path: &str,
-) -> Result<(Vec<u8>, ReportCity), ExitCause> {
+fn read_city<R: FileHost>(rt: &R, path: &str) -> Result<(Vec<u8>, ReportCity), ExitCause> {
     let alloc = rt.alloc();
     let file = ConfigFile::read(rt, path)?;
     let text = file.resolve(alloc)?;
@@ -217,8 +214,8 @@ fn read_city<R: Files<File = File> + AllocGlobal>(
 }
 
 /// The moment at which a report is made; `None` where no clock says so.
-fn made_at<R: Clock + Copy>(rt: &R) -> Option<Moment> {
-    MachineClock(*rt).now()
+fn made_at<R: Clock>(rt: &R) -> Option<Moment> {
+    MachineClock(rt).now()
 }
 
 /// The texts at the head of a report's page.
@@ -255,10 +252,7 @@ fn head_of(texts: &HeadTexts, made: Option<Moment>, span: ReportSpan) -> ReportH
 /// `Misconfigured`; `Report`; `ReportFolder` with the first folder whose journal can't be read, or else is damaged or
 /// of another configuration; `ReportEntry` with the first entry that can't be replayed; `NoMemory`. Then nothing is
 /// written. `NotPrinted` where the report is.
-pub fn report<R>(rt: &R, asked: &ReportOptions<'_>) -> Result<(), ExitCause>
-where
-    R: AllocGlobal + Files<File = File> + Print + Eprint + Threads + Clock + Sync + Copy,
-{
+pub fn report<R: ReportHost>(rt: &R, asked: &ReportOptions<'_>) -> Result<(), ExitCause> {
     let alloc = rt.alloc();
     let (text, city) = read_city(rt, asked.config)?;
     let config = configuration_in(alloc, &text)?;
