@@ -1,20 +1,19 @@
 //! Compacts the journal of a city while the city is served.
 
 use crate::file_swap::{FileJournal, JournalHandoff};
+use crate::host::CompactorHost;
 use crate::thread_job::ThreadJob;
 use journal_compaction::{
     AnswersAgree, CompactFault, JournalPrefix, check_empty, compact_prefix, record_compacted,
 };
 use journal_file::{FileStorage, Journal, LogEnd};
-use journal_folder::{CompactedJournal, FolderFault, Folders, archive_compacted, lock_file};
+use journal_folder::{CompactedJournal, FolderFault, archive_compacted, lock_file};
 use journal_swap::{CatchUpFault, CompactedLog, is_small_lag};
 use mds_text::Moment;
 use server_admission::{MachineClock, Moments};
-use std::alloc::{AllocError, AllocGlobal, Global};
+use std::alloc::{AllocError, Global};
 use std::fs::File;
-use std::io::{Eprint, Read};
-use std::sync::Wait;
-use std::time::Clock;
+use std::io::Read;
 
 /// How often a compacted journal is brought up to date, at the most, until it lacks little.
 const MOST_ROUNDS: u32 = 16;
@@ -74,7 +73,7 @@ fn catching_fault(fault: CatchUpFault) -> CompactFault {
     }
 }
 
-impl<R: Folders + Wait + Clock + AllocGlobal + Eprint + Copy> Compactor<'_, R> {
+impl<R: CompactorHost> Compactor<'_, R> {
     /// The path of a file in the folder.
     fn path(&self, name: &str) -> Result<String, AllocError> {
         format!(in self.rt.alloc(); "{}/{name}", self.folder)
@@ -217,8 +216,7 @@ impl<R: Folders + Wait + Clock + AllocGlobal + Eprint + Copy> Compactor<'_, R> {
     }
 }
 
-impl<R: Folders + Wait + Clock + AllocGlobal + Eprint + Copy + Drop> ThreadJob
-    for Compactor<'_, R> {
+impl<R: CompactorHost> ThreadJob for Compactor<'_, R> {
     type Outcome = ();
 
     fn run(self) {

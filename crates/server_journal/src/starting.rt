@@ -9,6 +9,7 @@ ghost use Rattle.server_journal.specs.Faults.{fault_of, full_fleet, is_conflict}
 ghost use Rattle.server_journal.specs.Starting.{HasHead, IsStartedFrom, IsStartedFromLog, is_publication};
 
 use crate::fault::JournalFault;
+use crate::host::ReplayHost;
 use crate::progress::ReplayProgress;
 use journal_entry::{EntryClient, JournalEntry};
 use journal_file::Log;
@@ -19,9 +20,7 @@ use mds_request::{Config, Verb};
 use mds_snapshot::{Blank, OpeningName};
 use mds_text::Id;
 use server_control::{Counters, Figure};
-use std::alloc::{AllocError, AllocGlobal, Global};
-use std::io::Eprint;
-use std::sync::Wait;
+use std::alloc::{AllocError, Global};
 
 /// The status of a report that a full fleet refuses: 409.
 const CONFLICT: u16 = 409;
@@ -91,7 +90,7 @@ fn publications(entries: &[JournalEntry<'_>]) -> usize
 ///
 /// `Folder` where the payloads aren't those of a journal of this configuration; `Refused` at the first entry that isn't
 /// answered with success, or `FullFleet` where that is for its operator's limit; `NoMemory`.
-fn start<K: OpeningName, R: Wait + AllocGlobal + Eprint + Copy + Drop>(
+fn start<K: OpeningName, R: ReplayHost>(
     rt: &R,
     texts: &[Vec<u8>],
     config: Config,
@@ -156,7 +155,7 @@ fn fault_of(entries: &[JournalEntry<'_>], fault: StartFault) -> JournalFault
 /// # Errors
 ///
 /// As `fault_of` says.
-fn replay_entries<K: OpeningName, R: Wait + AllocGlobal + Eprint + Copy + Drop>(
+fn replay_entries<K: OpeningName, R: ReplayHost>(
     rt: &R,
     config: Config,
     blank: Blank,
@@ -190,7 +189,7 @@ fn replay_entries<K: OpeningName, R: Wait + AllocGlobal + Eprint + Copy + Drop>(
 ///
 /// `Folder` where the log couldn't be read or begun, or isn't a journal of this configuration; `Refused` at the first
 /// entry that isn't answered with success, or `FullFleet` where that is for its operator's limit; `NoMemory`.
-pub fn resume<K: OpeningName, L: Log, R: Wait + AllocGlobal + Eprint + Copy + Drop>(
+pub fn resume<K: OpeningName, L: Log, R: ReplayHost>(
     rt: &R,
     log: &mut L,
     config: Config,
