@@ -1,17 +1,13 @@
 //! Serves a city with a control port.
 
 use crate::admin::AdminState;
-use crate::host::ServerHost;
+use crate::host::CommandHost;
 use crate::opening::{ConfigWithText, serve_city};
 use cli_args::ServeOptions;
 use cli_journal::ExitCause;
-use server_control::{Port, PortWaker, StopServer, serve_control};
+use server_control::{ControlRuntime, Port, PortWaker, StopServer, serve_control};
 use server_http::ShutdownHandle;
 use server_journal::{ThreadJob, run_concurrently};
-use std::alloc::AllocGlobal;
-use std::fs::{File, Files};
-use std::net::{Net, TcpListener, TcpStream};
-use std::time::Clock;
 
 /// Stops a server by its shutdown handle.
 #[derive(Drop)]
@@ -33,7 +29,7 @@ struct ControlPortJob<'a, R> {
     board: AdminState<'a>,
 }
 
-impl<R: Clock + AllocGlobal + Drop> ThreadJob for ControlPortJob<'_, R> {
+impl<R: ControlRuntime + Drop> ThreadJob for ControlPortJob<'_, R> {
     type Outcome = ();
 
     fn run(self) {
@@ -58,10 +54,10 @@ struct ControlledCity<'a> {
 
 /// Serves a city, and ends the control port after it. Gives how the server ended, and the waker of the port: a waker
 /// that is closed before the port has woken wakes nobody.
-fn serve_and_end<R>(rt: &R, controlled: ControlledCity<'_>) -> (Result<(), ExitCause>, PortWaker)
-where
-    R: ServerHost + Net + Files<File = File>,
-{
+fn serve_and_end<R: CommandHost>(
+    rt: &R,
+    controlled: ControlledCity<'_>,
+) -> (Result<(), ExitCause>, PortWaker) {
     let ControlledCity {
         service,
         given,
@@ -79,16 +75,13 @@ where
 /// # Errors
 ///
 /// `NoControl` where nothing can be listened to there, or the fault with which the server ends.
-pub fn serve_controlled<R>(
+pub fn serve_controlled<R: CommandHost>(
     rt: &R,
     service: &ServeOptions<'_>,
     address: &str,
     given: ConfigWithText<'_>,
     board: AdminState<'_>,
-) -> Result<(), ExitCause>
-where
-    R: ServerHost + Net<Listener = TcpListener, Stream = TcpStream> + Files<File = File>,
-{
+) -> Result<(), ExitCause> {
     let Ok(port) = Port::bind(rt, address, service.control_host) else {
         return Err(ExitCause::NoControl);
     };

@@ -3,11 +3,10 @@ ghost use Rattle.std.specs.Prelude.{◌≡◌};
 ghost use Rattle.ruffletuff.specs.Ends.{ending_of_journal};
 
 use cli_config::Limits;
+use cli_host::MessageHost;
 use cli_journal::ExitCause;
 use mds_text::Id;
 use server_journal::JournalFault;
-use std::alloc::AllocGlobal;
-use std::io::Eprint;
 
 /// Why the program ends where no server is started from the journal.
 fn exit_of(fault: &JournalFault) -> ExitCause
@@ -23,7 +22,7 @@ fn exit_of(fault: &JournalFault) -> ExitCause
 }
 
 /// Reports that the limit of an operator is too low.
-fn report_limit<R: Eprint + AllocGlobal>(rt: &R, limits: &Limits, operator: Id) {
+fn report_limit<R: MessageHost>(rt: &R, limits: &Limits, operator: Id) {
     if let Ok(Some(told)) = limits.too_low(rt.alloc(), operator) {
         let _ = eprintln!(rt; "{told}");
     }
@@ -31,11 +30,7 @@ fn report_limit<R: Eprint + AllocGlobal>(rt: &R, limits: &Limits, operator: Id) 
 
 /// Reports the limit that is too low for the journal, where that is why no server is started from it, and gives why the
 /// program ends. The limits are those of the configuration.
-pub fn report_fault<R: Eprint + AllocGlobal>(
-    rt: &R,
-    limits: &Limits,
-    fault: &JournalFault,
-) -> ExitCause
+pub fn report_fault<R: MessageHost>(rt: &R, limits: &Limits, fault: &JournalFault) -> ExitCause
     ensures { result ≡ ending_of_journal fault.now }
 {
     if let JournalFault::FullFleet(operator, _) = fault {

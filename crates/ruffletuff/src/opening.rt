@@ -6,12 +6,13 @@ ghost use Rattle.journal_recovery.specs.Recovery.{server_of};
 ghost use Rattle.server_journal.specs.Starting.{IsStartedFromLog};
 
 use crate::admin::AdminState;
-use crate::host::{ServerHost, ThreadHost};
+use crate::host::{CommandHost, FolderHost, ServerHost, ThreadHost};
 use crate::journal_exit::report_fault;
 use crate::listening::{BoundListener, listen};
 use crate::serving::{ServingParts, persist_and_serve};
 use cli_args::ServeOptions;
 use cli_config::Limits;
+use cli_host::FileHost;
 use cli_journal::{ExitCause, clear, ensure_compactions, journal_length, report_cut};
 use journal_commit::{Ballast, Space, UnnamedHistory};
 use journal_compaction::AnswersAgree;
@@ -31,14 +32,13 @@ use server_journal::{
 use server_start::workers;
 use server_state::{Hall, HallName, SharedHallName};
 use std::alloc::AllocGlobal;
-use std::fs::{File, Files};
+use std::fs::File;
 use std::marker::Brand;
-use std::net::Net;
 use std::sync::{Arc, Wait};
 use std::thread::{Threads, available_parallelism};
 
 /// Sets the metric of the journal's bytes.
-fn count_bytes<R: Files<File = File> + AllocGlobal>(rt: &R, folder: &str, counters: &Counters) {
+fn count_bytes<R: FileHost>(rt: &R, folder: &str, counters: &Counters) {
     if let Some(length) = journal_length(rt, folder) {
         counters.set(Figure::JournalBytes, length);
     }
@@ -102,15 +102,12 @@ impl CityOpening<'_> {
 ///
 /// The first fault, in the order in which things are opened: the folder with its files, the listener, the ballast, the
 /// journal, what a server starts from; then what ended the server.
-pub fn serve_city<'a, R>(
+pub fn serve_city<'a, R: CommandHost>(
     rt: &R,
     service: &'a ServeOptions<'a>,
     given: ConfigWithText<'a>,
     board: AdminState<'a>,
-) -> Result<(), ExitCause>
-where
-    R: ServerHost + Net + Files<File = File>,
-{
+) -> Result<(), ExitCause> {
     let ConfigWithText { config, text } = given;
     let Folder {
         lock: _lock,
@@ -152,10 +149,7 @@ where
 /// # Errors
 ///
 /// As `serve_city`.
-fn serve_and_close<R: ServerHost + Files<File = File>>(
-    rt: &R,
-    opening: CityOpening<'_>,
-) -> Result<(), ExitCause> {
+fn serve_and_close<R: FolderHost>(rt: &R, opening: CityOpening<'_>) -> Result<(), ExitCause> {
     let meeting = opening.meeting;
     let served = open_and_serve(rt, opening);
     meeting.close(rt);
@@ -167,10 +161,7 @@ fn serve_and_close<R: ServerHost + Files<File = File>>(
 /// # Errors
 ///
 /// As `serve_city`.
-fn open_and_serve<R: ServerHost + Files<File = File>>(
-    rt: &R,
-    opening: CityOpening<'_>,
-) -> Result<(), ExitCause> {
+fn open_and_serve<R: FolderHost>(rt: &R, opening: CityOpening<'_>) -> Result<(), ExitCause> {
     match opening.journal_swapper(rt) {
         Ok(standing) => serve_with_swaps(rt, opening, standing),
         Err(ending) => Err(ending),
@@ -183,10 +174,11 @@ fn open_and_serve<R: ServerHost + Files<File = File>>(
 /// # Errors
 ///
 /// As `serve_city`.
-fn serve_with_swaps<
-    B: CompactionSource<FileJournal, AnswersAgree> + Send,
-    R: ServerHost + Files<File = File>,
->(rt: &R, opening: CityOpening<'_>, beside: B) -> Result<(), ExitCause> {
+fn serve_with_swaps<B: CompactionSource<FileJournal, AnswersAgree> + Send, R: FolderHost>(
+    rt: &R,
+    opening: CityOpening<'_>,
+    beside: B,
+) -> Result<(), ExitCause> {
     let CityOpening {
         folder,
         archive,
@@ -230,7 +222,7 @@ fn serve_journal<B: CompactionSource<FileJournal, AnswersAgree> + Send, S: Space
     stage: ServingParts<'_>,
 ) -> Result<(), ExitCause>
 where
-    R: ServerHost + Files<File = File>,
+    R: FolderHost,
     requires { S.aside space ≡ 0 }
 {
     let mut aside = CutFiles::new(*rt, rt.alloc(), stage.folder)?;

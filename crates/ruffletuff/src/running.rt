@@ -6,23 +6,21 @@ use crate::admin::AdminState;
 use crate::arguments::read_words;
 use crate::controlling::serve_controlled;
 use crate::counting::counters_of;
-use crate::host::ServerHost;
+use crate::host::CommandHost;
 use crate::opening::{ConfigWithText, serve_city};
 use cli_args::{COMMIT, CliCommand, HELP, ServeOptions, VERSION, parse_command, version_line};
+use cli_host::{ConfigHost, OutputHost};
 use cli_journal::{
     ConfigFile, ExitCause, audit, check, check_archive_of, compact, configuration_in,
     read_text_and_report, report_exit, report_usage,
 };
 use cli_report_command::report;
 use cli_transfer::run_transfer;
-use server_control::{Control, stop};
+use server_control::{Control, ControlClientRuntime, stop};
 use server_http::ShutdownHandle;
-use std::alloc::AllocGlobal;
 use std::env::Env;
-use std::fs::{File, Files};
-use std::io::{Eprint, Print};
+use std::io::Print;
 use std::mem::drop;
-use std::net::{Net, TcpListener, TcpStream};
 use std::sync::Arc;
 
 /// The exit status of what was done.
@@ -36,10 +34,7 @@ fn status_of(done: Result<u8, ExitCause>) -> u8
 }
 
 /// Runs what the arguments ask for, reports faults on standard error, and gives the exit status.
-pub fn run<R>(rt: &R) -> u8
-where
-    R: ServerHost + Net<Listener = TcpListener, Stream = TcpStream> + Files<File = File> + Env,
-{
+pub fn run<R: CommandHost + Env>(rt: &R) -> u8 {
     let words = match read_words(rt) {
         Ok(words) => words,
         Err(ending) => {
@@ -59,10 +54,7 @@ where
 }
 
 /// Runs what the arguments ask for, and gives the exit status.
-fn carry_out<R>(rt: &R, asked: &CliCommand<'_>) -> Result<u8, ExitCause>
-where
-    R: ServerHost + Net<Listener = TcpListener, Stream = TcpStream> + Files<File = File>,
-{
+fn carry_out<R: CommandHost>(rt: &R, asked: &CliCommand<'_>) -> Result<u8, ExitCause> {
     let done = match asked {
         CliCommand::Help => print_text(rt, HELP),
         CliCommand::Version => print_version(rt),
@@ -98,7 +90,7 @@ fn print_text<R: Print>(rt: &R, text: &str) -> Result<(), ExitCause> {
 /// # Errors
 ///
 /// `NotPrinted`, `NoMemory`.
-fn print_version<R: Print + AllocGlobal>(rt: &R) -> Result<(), ExitCause> {
+fn print_version<R: OutputHost>(rt: &R) -> Result<(), ExitCause> {
     let line = version_line(rt.alloc(), VERSION, COMMIT)?;
     match println!(rt; "{line}") {
         Ok(()) => Ok(()),
@@ -112,10 +104,7 @@ fn print_version<R: Print + AllocGlobal>(rt: &R) -> Result<(), ExitCause> {
 ///
 /// `NoOversight` where its member `oversight` is none of its texts, `NoPage` where a part of its `page` is wrong,
 /// `Misconfigured` with what is wrong, where it isn't one; `NotPrinted`, `NoMemory`.
-fn check_configuration<R: Files<File = File> + Print + Eprint + AllocGlobal>(
-    rt: &R,
-    path: &str,
-) -> Result<(), ExitCause> {
+fn check_configuration<R: ConfigHost + Print>(rt: &R, path: &str) -> Result<(), ExitCause> {
     let source = ConfigFile::read(rt, path)?;
     source.report_findings(rt, path, false)?;
     let text = source.resolve(rt.alloc())?;
@@ -128,7 +117,7 @@ fn check_configuration<R: Files<File = File> + Print + Eprint + AllocGlobal>(
 /// # Errors
 ///
 /// `NotStopped` where no server there answers that it stops.
-fn stop_server<R: Net + AllocGlobal>(rt: &R, address: &str) -> Result<(), ExitCause> {
+fn stop_server<R: ControlClientRuntime>(rt: &R, address: &str) -> Result<(), ExitCause> {
     match stop(rt, address) {
         Ok(true) => Ok(()),
         Ok(false) | Err(_) => Err(ExitCause::NotStopped),
@@ -140,10 +129,7 @@ fn stop_server<R: Net + AllocGlobal>(rt: &R, address: &str) -> Result<(), ExitCa
 /// # Errors
 ///
 /// The configuration's, the archive's, the control port's, or the fault with which the city can't be opened or its server ends.
-fn serve<R>(rt: &R, service: &ServeOptions<'_>) -> Result<(), ExitCause>
-where
-    R: ServerHost + Net<Listener = TcpListener, Stream = TcpStream> + Files<File = File>,
-{
+fn serve<R: CommandHost>(rt: &R, service: &ServeOptions<'_>) -> Result<(), ExitCause> {
     let text = read_text_and_report(rt, rt.alloc(), service.config)?;
     let config = configuration_in(rt.alloc(), &text)?;
     check_archive_of(rt, service.archive)?;
