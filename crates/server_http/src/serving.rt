@@ -123,6 +123,9 @@ trait ConnFactory<I>: Drop {
     fn task_for(&self, io: I) -> Option<Self::Task>
         requires { can_seat self.now }
         ensures { IfSome result Self.Task.can_poll };
+
+    /// Ends a connection whose task can't be run.
+    fn end(task: Self::Task);
 }
 
 /// What each connection of a server is made with: the HTTP settings, and the acceptor's handle.
@@ -155,6 +158,26 @@ where
             conn,
         })
     }
+
+    fn end(task: Self::Task) {
+        task.conn.release();
+    }
+}
+
+/// A task on the heap: what runs tasks moves each one out of its place for a poll, and back.
+#[derive(Drop)]
+struct BoxedTask<F> {
+    task: Box<F>,
+}
+
+impl<F: Future<Output = ()>> Future for BoxedTask<F> {
+    type Output = ();
+
+    ghost can_poll = { λ boxed. F.can_poll boxed.task.value };
+
+    fn poll(&mut self, cx: &mut Context<'_>) -> Poll<()> {
+        self.task.poll(cx)
+    }
 }
 
 /// The tasks of a server: the reactor's keep-alive task, then each connection that gets a slot.
@@ -163,22 +186,39 @@ struct ServerTasks<S, H> {
     keepalive: Option<ReactorKeepalive>,
     sockets: S,
     host: H,
+    alloc: Global,
+}
+
+impl<S: Stream, H: ConnFactory<S::Item>> ServerTasks<S, H> {
+    /// The task of a connection, on the heap; none, where as many are served as may be, or memory is refused.
+    fn task_for(&self, io: S::Item) -> Option<BoxedTask<H::Task>>
+        requires { H.can_seat self.now.host }
+        ensures { IfSome result (λ boxed. H.Task.can_poll boxed.task.value) }
+    {
+        match Box::new(self.alloc, self.host.task_for(io)?) {
+            Ok(task) => Some(BoxedTask { task }),
+            Err(refused) => {
+                H::end(refused.value);
+                None
+            }
+        }
+    }
 }
 
 impl<S: Stream, H: ConnFactory<S::Item>> Stream for ServerTasks<S, H> {
-    type Item = Either<H::Task, ReactorKeepalive>;
+    type Item = Either<BoxedTask<H::Task>, ReactorKeepalive>;
 
     ghost can_poll = { λ tasks. S.can_poll tasks.sockets × H.can_seat tasks.host };
 
     ghost yields = { λ _ _ last. IfSome last
-        (elim [ Left task ↦ H.Task.can_poll task | Right _ ↦ ⊤ ]) };
+        (elim [ Left boxed ↦ H.Task.can_poll boxed.task.value | Right _ ↦ ⊤ ]) };
 
     fn poll_next(&mut self, cx: &mut Context<'_>) -> Poll<Option<Self::Item>> {
         if let Some(keepalive) = self.keepalive.take() {
             return Poll::Ready(Some(Either::Right(keepalive)));
         }
         match self.sockets.poll_next(cx) {
-            Poll::Ready(Some(io)) => match self.host.task_for(io) {
+            Poll::Ready(Some(io)) => match self.task_for(io) {
                 Some(task) => Poll::Ready(Some(Either::Left(task))),
                 None => cx.yield_now(),
             },
@@ -254,6 +294,7 @@ where
         keepalive: Some(keepalive),
         sockets,
         host: HttpConnFactory { http, acceptor },
+        alloc: rt.alloc(),
     };
     run_tasks(rt, runtime, tasks)
 }
