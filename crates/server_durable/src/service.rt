@@ -1,7 +1,7 @@
 //! A city that answers at the moments of a clock.
 ghost use Rattle.std.specs.Prelude.{◌≡◌, Option, ℕ, IfOk, IfSome};
 ghost use Rattle.server_app.specs.OperatorNames.{badges_view};
-ghost use Rattle.server_routes.specs.Endpoint.{AsksFile, AsksPublic, AsksState};
+ghost use Rattle.server_routes.specs.Resolution.{of_file, of_public, of_past, of_state, resolved_by};
 ghost use Rattle.server_routes.specs.declared.resolved.ResolvedHead.TheVariants.{Asset, Past, Public, State};
 ghost use Rattle.server_durable.specs.DurableResponse.{CityResponds};
 
@@ -47,10 +47,10 @@ impl<
     /// Resolves a head to its client and what it asks for, as `server_routes::resolve` says.
     pub fn resolve(&self, is_public: bool, parts: Parts) -> ResolvedHead<K>
         ensures { elim result [
-          | Asset own file ↦ (own ≡ parts) × AsksFile parts file
-          | Public own asked ↦ (own ≡ parts) × AsksPublic is_public parts asked
-          | Past head ↦ (head.parts ≡ parts) × AsksState is_public parts
-          | State head ↦ (head.parts ≡ parts) × AsksState is_public parts
+          | Asset own file ↦ (own ≡ parts) × (resolved_by K.configuration is_public parts ≡ of_file file)
+          | Public own asked ↦ (own ≡ parts) × (resolved_by K.configuration is_public parts ≡ of_public asked)
+          | Past head ↦ (head.parts ≡ parts) × (resolved_by K.configuration is_public parts ≡ of_past head.actor head.question)
+          | State head ↦ (head.parts ≡ parts) × (resolved_by K.configuration is_public parts ≡ of_state head.actor head.call)
         ] }
     {
         resolve(&self.city.hall, is_public, parts)

@@ -5,3 +5,4 @@ mod Beside
 mod Allowed
 mod PastQueries
 mod Targets
+mod Resolutions

@@ -1,10 +1,7 @@
 -- The endpoint of a path: the tables in the order in which they are looked at. The first that has the path has the
 -- request.
 use Rattle.std.specs.Prelude.{◌≡◌, ℕ, List, [], Bool, IsSome, Option, Some, None, if◌then◌else◌}
-use Rattle.http.specs.declared.request.Parts.{Parts}
-use Rattle.http_uri.specs.Uri.{uri_path}
 use Rattle.server_page.specs.File.{file_at}
-use Rattle.server_page.specs.declared.file.File.{File}
 use Rattle.server_routes.specs.Target.{asked_by}
 use Rattle.server_routes.specs.declared.public_target.PublicTarget.{PublicTarget}
 use Rattle.mds_request.specs.Call.{rows_at, segments_in}
@@ -13,20 +10,6 @@ use Rattle.server_routes.specs.App.{call_at}
 -- the public documents, where the configuration turns them on
 abbrev pub public_at : Bool → List ℕ → Option PublicTarget
 public_at is_public path = if is_public then asked_by path else None
-
--- the head asks for this file of the page
-abbrev pub AsksFile : Parts → File → Type 0
-AsksFile parts file = file_at (uri_path parts.uri) ≡ Some file
-
--- it asks for this public document
-pub record AsksPublic (is_public : Bool) (parts : Parts) (asked : PublicTarget) : Type 0 where
-  pub no_file : file_at (uri_path parts.uri) ≡ None
-  pub is_it : public_at is_public (uri_path parts.uri) ≡ Some asked
-
--- it asks for neither
-pub record AsksState (is_public : Bool) (parts : Parts) : Type 0 where
-  pub no_file : file_at (uri_path parts.uri) ≡ None
-  pub not_public : public_at is_public (uri_path parts.uri) ≡ None
 
 -- No two of the tables share a path, so their order decides nothing: at a file's path there is no public document and
 -- no call, and at a public document's path no call; and the table of calls has no row for the path of a call next to

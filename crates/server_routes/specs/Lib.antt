@@ -4,4 +4,5 @@ pub mod State
 pub mod Query
 pub mod Past
 pub mod Endpoint
+pub mod Resolution
 pub mod Allowed

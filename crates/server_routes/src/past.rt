@@ -59,7 +59,9 @@ impl<K: HallName> ResolvedPast<K> {
     pub(crate) fn new(parts: Parts, actor: Actor, question: PastQuestion) -> ResolvedPast<K>
         requires asks { actor ≡ actor_of K.configuration (token_of parts.headers) }
         requires past { past_in (state_call actor (verb_of parts.method) (target_of parts.uri)) (target_of parts.uri) ≡ Some question }
-        ensures { result.parts ≡ parts }
+        ensures head { result.parts ≡ parts }
+        ensures client { result.actor ≡ actor }
+        ensures question { result.question ≡ question }
     {
         ResolvedPast {
             parts,

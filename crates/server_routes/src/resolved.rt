@@ -7,7 +7,8 @@ ghost use Rattle.mds_request.specs.Request.{verb_of};
 ghost use Rattle.server_state.specs.HttpRequest.{target_of, token_of};
 ghost use Rattle.server_routes.specs.declared.public_target.PublicTarget.{PublicTarget};
 ghost use Rattle.http_uri.specs.Uri.{uri_path};
-ghost use Rattle.server_routes.specs.Endpoint.{AsksFile, AsksPublic, AsksState, public_at};
+ghost use Rattle.server_routes.specs.Endpoint.{public_at};
+ghost use Rattle.server_routes.specs.Resolution.{of_file, of_public, of_past, of_state, resolved_by};
 ghost use Rattle.server_routes.specs.State.{state_call, state_cost};
 ghost use Rattle.server_routes.specs.declared.resolved.ResolvedHead.TheVariants.{Asset, Past, Public, State};
 
@@ -69,10 +70,10 @@ fn state_of<K: HallName>(hall: &Hall<K>, parts: &Parts) -> (Actor, Result<StateC
 /// query has a moment.
 pub fn resolve<K: HallName>(hall: &Hall<K>, is_public: bool, parts: Parts) -> ResolvedHead<K>
     ensures { elim result [
-      | Asset own file ↦ (own ≡ parts) × AsksFile parts file
-      | Public own asked ↦ (own ≡ parts) × AsksPublic is_public parts asked
-      | Past head ↦ (head.parts ≡ parts) × AsksState is_public parts
-      | State head ↦ (head.parts ≡ parts) × AsksState is_public parts
+      | Asset own file ↦ (own ≡ parts) × (resolved_by K.configuration is_public parts ≡ of_file file)
+      | Public own asked ↦ (own ≡ parts) × (resolved_by K.configuration is_public parts ≡ of_public asked)
+      | Past head ↦ (head.parts ≡ parts) × (resolved_by K.configuration is_public parts ≡ of_past head.actor head.question)
+      | State head ↦ (head.parts ≡ parts) × (resolved_by K.configuration is_public parts ≡ of_state head.actor head.call)
     ] }
 {
     let path = parts.uri.path().as_bytes();

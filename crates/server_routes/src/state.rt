@@ -139,7 +139,9 @@ impl<K: HallName> ResolvedState<K> {
         requires asks { actor ≡ actor_of K.configuration (token_of parts.headers) }
         requires calls { call ≡ state_call actor (verb_of parts.method) (target_of parts.uri) }
         requires present { past_in call (target_of parts.uri) ≡ None }
-        ensures { result.parts ≡ parts }
+        ensures head { result.parts ≡ parts }
+        ensures client { result.actor ≡ actor }
+        ensures call { result.call ≡ call }
     {
         ResolvedState {
             parts,

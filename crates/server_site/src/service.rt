@@ -10,7 +10,7 @@ ghost use Rattle.server_past.specs.Response.{PastResponds};
 ghost use Rattle.server_public.specs.CachedDocuments.{IsTold};
 ghost use Rattle.server_responses.specs.Methods.{text_of as methods_text};
 ghost use Rattle.mds_request.specs.declared.config.Actor.TheVariants.{Nobody};
-ghost use Rattle.server_routes.specs.Endpoint.{AsksFile, AsksPublic, AsksState};
+ghost use Rattle.server_routes.specs.Resolution.{of_file, of_public, of_past, of_state, resolved_by};
 ghost use Rattle.server_routes.specs.State.{state_cost};
 ghost use Rattle.server_routes.specs.declared.resolved.ResolvedHead.TheVariants.{Asset, Past, Public, State};
 ghost use Rattle.server_site.specs.Calls.{methods_for};
@@ -145,10 +145,10 @@ where
     /// Public documents have paths only where there is a `PublicCache`.
     fn resolve(&self, parts: Parts) -> ResolvedHead<K>
         ensures { elim result [
-          | Asset own file ↦ (own ≡ parts) × AsksFile parts file
-          | Public own asked ↦ (own ≡ parts) × AsksPublic (is_some self.now.window) parts asked
-          | Past head ↦ (head.parts ≡ parts) × AsksState (is_some self.now.window) parts
-          | State head ↦ (head.parts ≡ parts) × AsksState (is_some self.now.window) parts
+          | Asset own file ↦ (own ≡ parts) × (resolved_by K.configuration (is_some self.now.window) parts ≡ of_file file)
+          | Public own asked ↦ (own ≡ parts) × (resolved_by K.configuration (is_some self.now.window) parts ≡ of_public asked)
+          | Past head ↦ (head.parts ≡ parts) × (resolved_by K.configuration (is_some self.now.window) parts ≡ of_past head.actor head.question)
+          | State head ↦ (head.parts ≡ parts) × (resolved_by K.configuration (is_some self.now.window) parts ≡ of_state head.actor head.call)
         ] }
     {
         self.state.resolve(self.window.is_some(), parts)
