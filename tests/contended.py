@@ -1,14 +1,14 @@
 #!/usr/bin/env python3
-"""Reports one device over eight connections at once, while two connections of the author's draft, replace and publish, kills ruffletuff
-by SIGKILL meanwhile, and starts it again.
+"""Reports one device over eight connections at once, while two connections of the author's draft, replace and publish, and four more put
+one draft and take it away, kills ruffletuff by SIGKILL meanwhile, and starts it again.
 
     contended.py PROGRAM [KILLS] [--replay FILE] [--seed NUMBER]
 
-What a desk answers under its lock has to be in the journal in that order, or the next start is refused, or answers another thing than was
-told. So each start has to be ready; the journal's audit has what it had before the kill, and behind it, of each connection, what was
-answered with success since, in order and once, and at most the one request that had no answer yet; and each answer is what mds_replay
-answers to the audit, byte for byte. Ten kills go to one folder; 100 take about a minute. Prints what differs, and last 'N passed,
-M failed', by kills; ends with 1 where one failed.
+What a desk or the author's room answers under its lock has to be in the journal in that order, or the next start is refused, or answers
+another thing than was told. So each start has to be ready; the journal's audit has what it had before the kill, and behind it, of each
+connection, what was answered with success since, in order and once, and at most the one request that had no answer yet; and each answer is
+what mds_replay answers to the audit, byte for byte. Ten kills go to one folder; 100 take about a minute. Prints what differs, and last 'N
+passed, M failed', by kills; ends with 1 where one failed.
 """
 
 import contextlib
@@ -21,9 +21,9 @@ from kept import City, replayed, split
 from kills import LOAD_SECONDS, OPERATOR, POLICY, RULE, SQUARE, Client, ask_until_killed, main
 from wire import AUTHOR, FIRST, identifier
 
-CONNECTIONS, AUTHORS = 8, 2
+CONNECTIONS, AUTHORS, DRAFTERS = 8, 2, 4
 KILLS, KILLS_OF_A_FOLDER = 100, 10
-DEVICE = identifier(4, 1)
+DEVICE, DRAFT = identifier(4, 1), identifier(POLICY, 0)
 
 
 def configuration():
@@ -70,6 +70,21 @@ class Author(Client):
         return "PUT", f"/drafts/policies/{self.policy}", f'{{{head},"prev_policies":[],"rules":[{rule}]}}'
 
 
+class Drafter(Client):
+    """Puts one draft, which all of these connections put, and takes it away, by chance."""
+
+    def __init__(self, number, seed):
+        super().__init__(AUTHOR, f"{seed} drafter {number}")
+        self.number = number
+
+    def next(self):
+        # No other connection asks the same: what is taken away is so with a body, which is kept and not read.
+        own = f"{self.number} {self.count}"
+        if self.choice.random() < 0.5:
+            return "DELETE", f"/drafts/policies/{DRAFT}", f'"{own}"'
+        return "PUT", f"/drafts/policies/{DRAFT}", f'{{"policy_id":"{DRAFT}","name":"{own}","start_date":1000,"rules":[]}}'
+
+
 def publish_square(server):
     """Publishes the geography of all policies, once. Gives the requests, and what each was answered."""
     ring = "[[0,0],[10,0],[10,10],[0,10],[0,0]]"
@@ -92,6 +107,7 @@ class Life:
         self.city, self.replay = city, replay
         seconds, names = itertools.count(10_000), itertools.count(1)
         self.clients = [Reporter(it, seconds, seed) for it in range(CONNECTIONS)] + [Author(it, names, seed) for it in range(AUTHORS)]
+        self.clients += [Drafter(it, seed) for it in range(DRAFTERS)]
         self.lines, self.asked = [], 0
 
     def faults(self):
