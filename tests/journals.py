@@ -44,6 +44,7 @@ MOST_OF_A_FILE = 300_000  # bytes of a journal that can't grow further
 LARGE = 20_000  # bytes of a report that fills either soon
 SEEMING, THERE, BLOCK = 64_000_000, 9_000_000, 4096  # bytes that a disk seems to have, of those that are there, and of its blocks
 LARGER = 100_000  # bytes of a report that fills it soon
+STEP = 4_194_304  # bytes of room that are set aside at once, where the disk has as many
 
 DAMAGED = b"ruffletuff: the journal is damaged, or of another version: "
 UNFIT = b"ruffletuff: the configuration doesn't fit the journal: "
@@ -93,18 +94,20 @@ QUESTIONS = ("/policies", "/geographies", "/fleet/vehicles", "/compliance")
 
 
 class Small:
-    """A small city's folder, its lines, and where each group of its journal ends."""
+    """A small city's folder, its lines, where each group of its journal ends, and the moments before each request and behind the last."""
 
     def __init__(self, program, room, replay):
         self.program, self.replay = program, replay
         city = City(program, room, BOTH)
-        self.ends = []
+        self.ends, self.moments = [], []
         with city.serve() as server:
             self.ends.append(len(city.bytes()))
             for token, *asked in SMALL:
+                self.moments.append(time.time_ns() // 1_000_000)
                 if (answer := server.ask(asked[0], asked[1], token, asked[2].encode())).status != 200:
                     raise ValueError(f"{asked[1]} is answered {answer}")
                 self.ends.append(len(city.bytes()))
+            self.moments.append(time.time_ns() // 1_000_000)
             self.told = told(server)
             if (found := server.end()) != (0, b"", b""):
                 raise ValueError(f"the server ends with {found}")
@@ -167,6 +170,22 @@ def has_its_layout(small):
     yield from (f"it has {it}" for it in (AUTHOR, ALFA, BRAVO) if it.encode() in small.bytes)
     if [split(it)[1] for it in small.lines] != [line_of(*it) for it in SMALL]:
         yield f"the audit has other lines: {small.lines}"
+
+
+def has_its_moments(small):
+    """Each entry has the moment of the machine's clock at which it was asked."""
+    for line, begun, ended in zip(small.lines, small.moments, small.moments[1:]):
+        if not begun <= split(line)[0] <= ended:
+            yield f"between {begun} and {ended} was asked {line[:80]}"
+
+
+def sets_room_aside(small):
+    """Once a change is made the ballast has a step of room, but for what the change's record took of it."""
+    with small.copy() as city, city.serve() as server:
+        server.ask("POST", "/fleet/events", ALFA, report(1, 3000).encode())
+        found = os.path.getsize(os.path.join(city.folder, "ballast"))
+        if not STEP - 1_000 <= found < STEP:
+            yield f"the ballast has {found} bytes"
 
 
 def is_checked(small):
@@ -841,7 +860,9 @@ def a_disk_that_fails(small):
 
 CASES = (
     has_its_layout,
+    has_its_moments,
     is_checked,
+    sets_room_aside,
     unknown_versions,
     other_tokens,
     what_fits,
