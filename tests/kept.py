@@ -35,6 +35,45 @@ int fsync(int file) { return held("fsync", file); }
 
 int fdatasync(int file) { return held("fdatasync", file); }
 """
+# Each sync of a program, and each name that it gives to a file, is told in a file, once it is done.
+TOLD_SYNC = b"""
+#define _GNU_SOURCE
+#include <dlfcn.h>
+#include <stdio.h>
+#include <stdlib.h>
+#include <unistd.h>
+
+typedef int sync_of(int);
+typedef int rename_of(const char *, const char *);
+
+static void tell(const char *what, const char *path) {
+    const char *by = getenv("SYNC_TOLD_IN");
+    FILE *told = by ? fopen(by, "a") : 0;
+    if (!told) return;
+    fprintf(told, "%s %s\\n", what, path);
+    fclose(told);
+}
+
+static int synced(const char *name, int file) {
+    char link[64], path[4096];
+    int status = ((sync_of *)dlsym(RTLD_NEXT, name))(file);
+    snprintf(link, sizeof link, "/proc/self/fd/%d", file);
+    ssize_t length = readlink(link, path, sizeof path - 1);
+    path[length < 0 ? 0 : length] = 0;
+    if (!status) tell("synced", path);
+    return status;
+}
+
+int fsync(int file) { return synced("fsync", file); }
+
+int fdatasync(int file) { return synced("fdatasync", file); }
+
+int rename(const char *from, const char *to) {
+    int status = ((rename_of *)dlsym(RTLD_NEXT, "rename"))(from, to);
+    if (!status) tell("named", to);
+    return status;
+}
+"""
 
 
 @functools.cache
@@ -119,12 +158,21 @@ def slowed(folder, microseconds):
     return os.environ | {"LD_PRELOAD": library, "SYNC_MICROSECONDS": str(microseconds)}
 
 
+def preloaded(folder, name, source):
+    """A library of this source, which is loaded before a program's own. It is built into the folder, by a compiler of C."""
+    library = os.path.join(folder, name)
+    subprocess.run(["cc", "-O2", "-shared", "-fPIC", "-o", library, "-x", "c", "-", "-ldl"], input=source, check=True)
+    return library
+
+
 def held(folder, file):
-    """The environment of a program each of whose syncs waits for as long as a file is there. What it takes is built into the folder, by a
-    compiler of C."""
-    library = os.path.join(folder, "held_sync.so")
-    subprocess.run(["cc", "-O2", "-shared", "-fPIC", "-o", library, "-x", "c", "-", "-ldl"], input=HELD_SYNC, check=True)
-    return os.environ | {"LD_PRELOAD": library, "SYNC_HELD_BY": file}
+    """The environment of a program each of whose syncs waits for as long as a file is there."""
+    return os.environ | {"LD_PRELOAD": preloaded(folder, "held_sync.so", HELD_SYNC), "SYNC_HELD_BY": file}
+
+
+def told_of(folder, file):
+    """The environment of a program that tells in a file of each sync, by the path of what is synced, and of each name that it gives."""
+    return os.environ | {"LD_PRELOAD": preloaded(folder, "told_sync.so", TOLD_SYNC), "SYNC_TOLD_IN": file}
 
 
 class City:

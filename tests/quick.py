@@ -8,12 +8,12 @@ The tests of each crate that has some are built and run by `rt try --test`, and 
 proved one first, where no source is newer. Then come the scripts (replays.py), questions that are asked once and again (columns.py),
 ruffletuff on the messages that wait for no deadline and on the short loads (http.py), some kills (kills.py, contended.py), journals
 (journals.py, damages.py, thinning.py), reports on the past (report.py), the control port (control.py), configurations (config.py), many
-reports at once (many.py), also beside the changes of others (shares.py), each path by each method and client (routes.py), files that are
-imported (exchange.py), what people are told (app.py), how operators stand (oversight.py) and stood (past.py), what everyone is told
-(public.py), the counts in docs/audit/DEFINITIONS.md (definitions.py), the table of crates in docs/ARCHITECTURE.md (crates.py), links and
-lengths of all documents (documents.py), whether each edit can be made (mutations.py), nginx before a server (nginx.py), the page (page.py),
-in a browser too (web/run.py), a short stress (stress.py), some refused growths of memory (growths.py) and the check of docs/openapi.yaml
-(openapi.py). The other messages, and mds_serve, which serves by the same crates, are tried by `make prove` alone.
+reports at once (many.py), also beside the changes of others (shares.py), what is synced and when (syncs.py), each path by each method and
+client (routes.py), files that are imported (exchange.py), what people are told (app.py), how operators stand (oversight.py) and stood
+(past.py), what everyone is told (public.py), the counts in docs/audit/DEFINITIONS.md (definitions.py), the table of crates in
+docs/ARCHITECTURE.md (crates.py), links and lengths of all documents (documents.py), whether each edit can be made (mutations.py), nginx
+before a server (nginx.py), the page (page.py), in a browser too (web/run.py), a short stress (stress.py), some refused growths of memory
+(growths.py) and the check of docs/openapi.yaml (openapi.py). The other messages, and mds_serve, which serves by the same crates, are tried by `make prove` alone.
 
 What wants a package that isn't there, or the leave to mount a disk, is left out: the lines before the last name it, with the command that
 gets the packages; with GATE=1 it has failed (packages.py). What a part prints comes once the part is over, and of one that failed the last
@@ -145,6 +145,7 @@ def parts(room):
     add("configurations", 0.3, kept, lambda: script("config.py", keep, slow=slow["ruffletuff"]))
     add("many reports", 0.5, kept, lambda: script("many.py", keep, slow=slow["ruffletuff"]))
     add("changes beside many lines", 0.5, kept, lambda: script("shares.py", keep, *SHARES, slow=slow["ruffletuff"]))
+    add("what is synced, and when", 0.3, kept, lambda: script("syncs.py", keep, slow=slow["ruffletuff"]))
     add("each path, and what refusals take", 1.5, kept, lambda: script("routes.py", keep, "--told", slow=slow["ruffletuff"]))
     add("what people are told", 0.3, kept, lambda: script("app.py", keep, slow=slow["ruffletuff"]))
     add("how operators stand", 0.3, kept, lambda: script("oversight.py", keep, slow=slow["ruffletuff"]))

@@ -1,0 +1,107 @@
+#!/usr/bin/env python3
+"""What is synced, and when: starts ruffletuff with a library before its own, which makes its syncs wait, or tells of each.
+
+    syncs.py PROGRAM
+
+While a sync lasts a report that waits for it isn't answered, and isn't shown to its operator over another connection either. And a thinned
+journal is synced before it gets the journal's name, and behind that the folder is, before anything else: by `thin`, and while the city is
+served. Wants a compiler of C (packages.py). Prints what is otherwise, and last 'N passed, M failed'; ends with 1 where one failed.
+"""
+
+import concurrent.futures
+import os
+import sys
+import tempfile
+import time
+
+import packages
+from journals import until
+from kept import City, ended, held, told_of, tried
+from shares import is_written_behind
+from wire import FIRST, PATIENCE, SECONDS, Link, configuration, identifier, report, request
+
+NEW = b'{"result":"new"}'
+PAUSE = 0.5 * PATIENCE  # seconds for an answer that isn't to come
+SMALL = 20_000  # bytes of growth behind which the journal is thinned
+REPORTS = 10_000  # at the most, until it is
+
+
+def reported(server):
+    """The answer to a report, for which it waits as long as it lasts."""
+    with server.link() as link:
+        link.socket.settimeout(6 * SECONDS)
+        link.send(request("POST", "/fleet/events", FIRST, report(1)))
+        return link.answer()
+
+
+def what_is_not_synced_is_not_told(program):
+    """While its sync lasts a report isn't answered, and a question that would show it isn't either; once it is over both are."""
+    with tempfile.TemporaryDirectory(prefix="syncs-") as room, concurrent.futures.ThreadPoolExecutor(2) as pool:
+        city, hold = City(program, room, configuration()), os.path.join(room, "hold")
+        with city.serve("--thin-at", "0", env=held(room, hold)) as server:
+            size = os.path.getsize(city.journal)
+            with open(hold, "wb"):
+                change = pool.submit(reported, server)
+            is_held = is_written_behind(city.journal, size)
+            question = pool.submit(server.ask, "GET", "/fleet/vehicles", FIRST)
+            if not is_held or until(server, "pending_replies", lambda count: count == 2) != 2:
+                yield "a report and a question don't wait together"
+            time.sleep(PAUSE)
+            if change.done():
+                yield "a report is answered while its sync lasts"
+            if question.done():
+                yield "a report is shown while its sync lasts"
+            os.remove(hold)
+            if (answer := change.result()).status != 200 or answer.body != NEW:
+                yield f"the report is answered {answer}"
+            if (answer := question.result()).status != 200 or identifier(4, 1).encode() not in answer.body:
+                yield f"the question is answered {answer}"
+            if (found := server.end()) != (0, b"", b""):
+                yield f"it ends with {found}"
+
+
+def steps_in(file):
+    """What was told of syncs and names, in order."""
+    with open(file, encoding="utf-8") as text:
+        return text.read().splitlines()
+
+
+def unsynced(city, file):
+    """What isn't synced in time of journals that got the journal's name."""
+    steps = steps_in(file)
+    places = [place for place, step in enumerate(steps) if step == f"named {city.journal}"]
+    if not places:
+        yield "no other journal got the name"
+    for place in places:
+        if f"synced {city.journal}.thinned" not in steps[:place]:
+            yield "a journal gets the name that wasn't synced"
+        if steps[place + 1 : place + 2] != [f"synced {city.folder}"]:
+            yield f"behind the new name comes {steps[place + 1 : place + 2]}"
+
+
+def names_are_synced(program):
+    """A thinned journal is synced before it gets the name, and the folder behind that: while the city is served, and by thin."""
+    with tempfile.TemporaryDirectory(prefix="syncs-") as made:
+        room = os.path.realpath(made)
+        city, file = City(program, room, configuration()), os.path.join(room, "steps")
+        how = {"env": told_of(room, file)}
+        with city.serve("--thin-at", str(SMALL), **how) as server, Link(server.port) as link:
+            for number in range(REPORTS):
+                link.send(request("POST", "/fleet/events", FIRST, report(1, 2_000 + number)))
+                if (answer := link.answer()).status != 200:
+                    yield f"a report is answered {answer}"
+                    return
+                if number % 20 == 0 and f"named {city.journal}" in steps_in(file):
+                    break
+            server.end()
+        yield from (f"while it is served: {it}" for it in unsynced(city, file))
+        os.remove(file)
+        if (found := ended(program, "thin", city.folder, "--config", city.file, **how))[0]:
+            yield f"thin ends with {found}"
+        yield from (f"by thin: {it}" for it in unsynced(city, file))
+
+
+if __name__ == "__main__":
+    if not packages.program("cc"):
+        packages.end_without("what is synced, and when", "cc")
+    sys.exit(tried(__doc__, (what_is_not_synced_is_not_told, names_are_synced)))
