@@ -235,6 +235,8 @@ fn expect_bounds<K: LogName, L: Log, R: TestRuntime>(
     let stamp = keeper.append(rt, place).ok().ok_or("a stamp")?;
     assert!(rt; none == Some(ReserveFault::NoRoom));
     assert!(rt; keeper.may_respond(&stamp) == ResponseTiming::Later && stamp.len() == 1);
+    // What reads shows it too, and waits for it.
+    assert!(rt; keeper.log_position(&nothing).len() == 1);
     keeper.stop(rt);
     assert!(rt; reserve_fault(rt, &keeper, AUTHOR, third) == Some(ReserveFault::Stopping));
     Ok(())

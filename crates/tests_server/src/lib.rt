@@ -1,5 +1,6 @@
-//! Tests of snapshots, desks and halls, of responses and the control port, and of connections over loopback. They use
-//! public items alone, and are a crate of their own, so that proving them doesn't prove the tested crates again.
+//! Tests of snapshots, desks and halls, of responses, public documents and the control port, and of connections over
+//! loopback. They use public items alone, and are a crate of their own, so that proving them doesn't prove the tested
+//! crates again.
 #![tactic(auto)]
 
 #[cfg(test)]
@@ -22,6 +23,8 @@ mod hall;
 mod loopback;
 #[cfg(test)]
 mod page;
+#[cfg(test)]
+mod public;
 #[cfg(test)]
 mod queues;
 #[cfg(test)]

@@ -1,4 +1,4 @@
-//! Turns in the queue of one client.
+//! Turns in the queues of clients.
 ghost use Rattle.std.specs.Prelude.{IfSome};
 ghost use Rattle.futures.specs.Task.{Keeps};
 ghost use Rattle.server_http.specs.Turn.{IsWaiting};
@@ -34,7 +34,7 @@ fn permits(turn: &mut Option<Turn>, cx: &mut Context<'_>) -> Option<Permits>
     }
 }
 
-/// A future that tries turns in the queue of alfa, where nothing else waits.
+/// A future that tries turns in the queue of alfa, and in that of the author, where nothing else waits.
 #[derive(Drop)]
 struct QueueTest<'a> {
     queues: &'a Queues,
@@ -48,6 +48,8 @@ enum QueueCase {
     Short,
     /// Three long answers, and short ones.
     Long,
+    /// A long answer to alfa, and one to the author.
+    Apart,
 }
 
 impl QueueTest<'_> {
@@ -65,6 +67,15 @@ impl QueueTest<'_> {
         let first = permits(&mut self.turn(Cost::Shared), cx);
         let second = permits(&mut self.turn(Cost::Shared), cx);
         first.is_some() && second.is_some()
+    }
+
+    /// Whether the author's long answer has its turn while alfa's runs.
+    fn are_apart(&self, cx: &mut Context<'_>) -> bool
+        ensures { Keeps cx.old cx.new }
+    {
+        let own = permits(&mut self.turn(Cost::Exclusive), cx);
+        let other = permits(&mut self.queues.turn(Actor::Author, Cost::Exclusive), cx);
+        own.is_some() && other.is_some()
     }
 
     /// Whether a short answer is next after the long one that runs, before two long ones that waited first, and
@@ -108,6 +119,7 @@ impl Future for QueueTest<'_> {
         Poll::Ready(match self.scene {
             QueueCase::Short => self.are_concurrent(cx),
             QueueCase::Long => self.are_in_order(cx),
+            QueueCase::Apart => self.are_apart(cx),
         })
     }
 }
@@ -128,6 +140,16 @@ fn a_short_answer_waits_for_one_long(rt: HostRuntime) -> Result<(), Fail> {
     let alloc = rt.alloc();
     let queues = &Queues::new(alloc, &Config::read(alloc, CONFIGURATION)?)?;
     let scene = QueueCase::Long;
+    assert!(rt; block_on(&rt, QueueTest { queues, scene })?);
+    Ok(())
+}
+
+/// A long answer to one client keeps no other client waiting.
+#[test]
+fn clients_have_queues_of_their_own(rt: HostRuntime) -> Result<(), Fail> {
+    let alloc = rt.alloc();
+    let queues = &Queues::new(alloc, &Config::read(alloc, CONFIGURATION)?)?;
+    let scene = QueueCase::Apart;
     assert!(rt; block_on(&rt, QueueTest { queues, scene })?);
     Ok(())
 }

@@ -154,3 +154,35 @@ fn evaluates_by_the_given_evaluator(rt: HostRuntime) -> Result<(), Fail> {
     assert!(rt; furnish_and_run(&rt, rt.alloc(), &GivenEvaluator)?);
     Ok(())
 }
+
+struct RepeatedQuestion;
+
+impl DeskTest for RepeatedQuestion {
+    fn run_test<K: OpeningName, R: Wait + Abort>(
+        &self,
+        rt: &R,
+        _alloc: Global,
+        room: &mut AuthorRoom<K>,
+        alfa: &mut Desk<K>,
+        _bravo: &mut Desk<K>,
+    ) -> Result<bool, AllocError> {
+        set_up_for(rt, room, alfa);
+        assert_answers(rt, alfa, REPORT_FIRST);
+        assert_answers(rt, alfa, REPORT_SECOND);
+        let counting = CountingEvaluator::new();
+        for _ in 0..3 {
+            let question = request(moment(rt, EXCEEDED), EXCEEDED);
+            let reply = alfa.answer(&question, &mut OpenGate, &counting);
+            assert_success(rt, &reply, EXCEEDED);
+        }
+        assert!(rt; counting.policies() == 1);
+        Ok(true)
+    }
+}
+
+/// A policy is evaluated at the first question: further ones are answered by what the desk has kept since.
+#[test]
+fn evaluates_once_what_is_asked_again(rt: HostRuntime) -> Result<(), Fail> {
+    assert!(rt; furnish_and_run(&rt, rt.alloc(), &RepeatedQuestion)?);
+    Ok(())
+}
