@@ -1,0 +1,6 @@
+pub mod Passing
+pub mod Joining
+pub mod Carried
+pub mod Sending
+pub mod Laying
+pub mod Known
