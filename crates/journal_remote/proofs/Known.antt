@@ -3,7 +3,6 @@ use Rattle.std.proofs.Common.{◌≡◌, ℕ, ◌+◌, ◌<◌, ◌&&◌, Bool, 
 use Rattle.std.proofs.Common.{◌∙◌, arith}
 use Rattle.std.specs.Prelude.{◌⊎◌, Option, Some}
 use Rattle.std.proofs.Math.Seq.{take-length}
-use Rattle.std.proofs.lemmas.List.{length-append}
 use Rattle.std.proofs.lemmas.Bool.{and_parts}
 use Rattle.journal_register.specs.declared.owner.Owner.{Owner}
 use Rattle.journal_register.specs.declared.head.Generation.{Generation}
@@ -13,11 +12,13 @@ use Rattle.journal_register.specs.Laws.{look_at}
 use Rattle.journal_register.specs.Order.{is_owner, is_head}
 use Rattle.journal_register.specs.Register.{Register, Message}
 use Rattle.journal_register.proofs.Orders.{same_owner}
+use Rattle.journal_remote.specs.Ends.{EndsBehind, no_end}
 use Rattle.journal_remote.specs.Joined.{Joins, JoinsFrom}
 use Rattle.journal_remote.specs.Passing.{Between, Goes}
 use Rattle.journal_remote.specs.Kept.{AreSettled, is_current, Keeps}
 use Rattle.journal_remote.specs.Laid.{Appended}
 use Rattle.journal_remote.proofs.Passing.{known_before, known_behind}
+use Rattle.journal_remote.proofs.Ending.{ends_on}
 use Rattle.journal_remote.proofs.Joining.{joins_on}
 use Rattle.journal_remote.proofs.Carried.{Alike, alike_on, over_on, never_over, quiet_current, current_on}
 use Rattle.journal_remote.proofs.Carried.{current_tells, IsCurrent}
@@ -111,7 +112,7 @@ keeps_on owner head is_own sends a b bytes goes mine settled current keeps = rec
       let k = known_before a b (Goes is_own sends) n goes e in
       by n is k.0 k.1 (quiet_current owner head is_own sends k.0 n k.2 mine settled
       (current_tells owner head k.0 (current k.0 k.1)));
-  counted = keeps.counted;
+  ended = keeps.ended;
 }
   where
     by : (n : Register) → n.owner ≡ owner → (k : Register) → a ≡ Some k
@@ -124,17 +125,16 @@ keeps_on owner head is_own sends a b bytes goes mine settled current keeps = rec
 
 pub keeps_more : (owner : Owner) (head next : Head) (a b : Option Register) (before bytes : List ℕ)
     → Between a b (λ k l. is_current owner head k ≡ true → Appended owner head next bytes k l)
-    → AreCurrent owner head a → next.extent.end.position ≡ head.extent.end.position + length bytes
+    → AreCurrent owner head a → EndsBehind head.extent.end bytes next.extent.end
     → Keeps owner head before a → Keeps owner next (before ++ bytes) b
 keeps_more owner head next a b before bytes appended current ends keeps =
-    let long = length-append before bytes in
-    let counted = keeps.counted in record {
+    record {
       joined = λ n e is.
           let k = known_before a b (λ k l. is_current owner head k ≡ true → Appended owner head next bytes k l) n
           appended e in
           let did = k.2 (current k.0 k.1) in
           did.joined before (keeps.joined k.0 k.1 did.began);
-      counted = omega arith;
+      ended = ends_on no_end head.extent.end next.extent.end before bytes keeps.ended ends;
     }
 
 pub current_next : (owner : Owner) (head next : Head) (a b : Option Register) (bytes : List ℕ)
@@ -149,7 +149,7 @@ current_next owner head next a b bytes appended current n e =
 pub keeps_itself : (owner : Owner) (head : Head) (a : Option Register) (bytes : List ℕ) (len : ℕ)
     → len ≡ head.extent.end.position → Keeps owner head bytes a → Keeps owner head (take len bytes) a
 keeps_itself owner head a bytes len is keeps =
-    let e : length bytes ≡ len = keeps.counted ∙ sym is in
+    let e : length bytes ≡ len = sym keeps.ended.position ∙ sym is in
     subst (λ b. Keeps owner head b a)
     (sym (take-length bytes) ∙ ap (λ (n : ℕ). take n bytes) e) keeps
 

@@ -1,5 +1,6 @@
 pub mod Passing
 pub mod Joining
+pub mod Ending
 pub mod Carried
 pub mod Sending
 pub mod Laying

@@ -13,3 +13,7 @@ pub record EndsBehind (from : LogEnd) (bytes : List ℕ) (to : LogEnd) : Type 0 
   pub position : to.position ≡ from.position + length bytes
   pub sum : to.sum ≡ sums_over from.sum texts
   pub count : to.count ≡ from.count + length (listed texts)
+
+-- where a list of no payloads ends
+abbrev pub no_end : LogEnd
+no_end = record { position = 0; sum = 0; count = 0 }

@@ -1,5 +1,5 @@
 pub mod Passing
 pub mod Joined
 pub mod Laid
-pub mod Kept
 pub mod Ends
+pub mod Kept

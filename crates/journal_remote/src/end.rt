@@ -1,10 +1,17 @@
 //! Log ends behind more records.
-ghost use Rattle.std.specs.Prelude.{◌≡◌, ℕ, List, length, map, IfOk};
+ghost use Rattle.std.specs.Prelude.{◌≡◌, ℕ, List, length, map, IfOk, OnOk};
 ghost use Rattle.journal_file.specs.Groups.{listed};
-ghost use Rattle.journal_remote.specs.Ends.{EndsBehind};
+ghost use Rattle.journal_remote.specs.Ends.{EndsBehind, no_end};
 
 use journal_file::{LogEnd, Record, StorageFault, is_plain, read};
 use std::alloc::Global;
+
+/// Where a list of no payloads ends.
+const NO_END: LogEnd = LogEnd {
+    position: 0,
+    sum: 0,
+    count: 0,
+};
 
 /// How many records are no marks.
 fn plain_count(records: &[Record<'_>]) -> usize
@@ -40,4 +47,19 @@ pub(crate) fn end_behind(alloc: Global, from: LogEnd, bytes: &[u8]) -> Result<Lo
         sum: found.sum,
         count: from.count + count,
     })
+}
+
+/// Checks that a journal's bytes are whole records, and that their list ends so.
+///
+/// # Errors
+///
+/// `Failed` where they aren't, or it doesn't; `NoMemory`.
+pub(crate) fn check_end(alloc: Global, bytes: &[u8], end: LogEnd) -> Result<(), StorageFault>
+    ensures { OnOk result (EndsBehind no_end bytes.now end) }
+{
+    let found = end_behind(alloc, NO_END, bytes)?;
+    if found.position != end.position || found.sum != end.sum || found.count != end.count {
+        return Err(StorageFault::Failed);
+    }
+    Ok(())
 }

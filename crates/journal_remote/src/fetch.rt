@@ -1,10 +1,12 @@
 //! Reading all that stands below a head.
-ghost use Rattle.std.specs.Prelude.{◌≡◌, ℕ, List, true, length, Some, IfOk};
+ghost use Rattle.std.specs.Prelude.{◌≡◌, ℕ, List, true, Some, IfOk};
 ghost use Rattle.journal_register.specs.Register.{Register, Message};
+ghost use Rattle.journal_remote.specs.Ends.{EndsBehind, no_end};
 ghost use Rattle.journal_remote.specs.Joined.{Joins};
 ghost use Rattle.journal_remote.specs.Kept.{AreSettled, is_current};
 ghost use Rattle.journal_remote.specs.Passing.{Between, Goes};
 
+use crate::end::check_end;
 use crate::engine::Engine;
 use crate::send::look;
 use crate::tenure::Tenure;
@@ -16,8 +18,8 @@ use std::alloc::Global;
 ///
 /// # Errors
 ///
-/// `Failed` where something wasn't answered, a chunk is missing, another owner has come, or there aren't as many bytes
-/// as the head says; `NoMemory`.
+/// `Failed` where something wasn't answered, a chunk is missing, another owner has come, or the bytes aren't whole
+/// records whose list ends where the head says; `NoMemory`.
 pub(crate) fn fetch<E: Engine>(
     alloc: Global,
     engine: &mut E,
@@ -28,7 +30,7 @@ pub(crate) fn fetch<E: Engine>(
     requires settled { AreSettled (E.sends engine.old) tenure.owner tenure.head }
     requires current { (k : Register) → E.register engine.old ≡ Some k → is_current tenure.owner tenure.head k ≡ true }
     ensures goes { Between (E.register engine.old) (E.register engine.new) (Goes (E.is_own engine.old) (E.sends engine.new)) }
-    ensures counted { IfOk result (λ v. length v.items ≡ tenure.head.extent.end.position) }
+    ensures ended { IfOk result (λ v. EndsBehind no_end v.items tenure.head.extent.end) }
     ensures joined { IfOk result (λ v. (k : Register) → E.register engine.old ≡ Some k → Joins (k.chunk tenure.head.extent.generation) tenure.head.extent.chunks v.items) }
     ensures joins { IfOk result (λ v. (k : Register) → E.register engine.new ≡ Some k → Joins (k.chunk tenure.head.extent.generation) tenure.head.extent.chunks v.items) }
     ensures sent { E.sends engine.new ≡ E.sends engine.old }
@@ -51,8 +53,6 @@ pub(crate) fn fetch<E: Engine>(
     if !tenure.is_shown(&seen) {
         return Err(StorageFault::Failed);
     }
-    if bytes.len() as u64 != extent.end.position {
-        return Err(StorageFault::Failed);
-    }
+    check_end(alloc, &bytes, extent.end)?;
     Ok(bytes)
 }

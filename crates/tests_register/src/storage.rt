@@ -1,7 +1,7 @@
 //! Tests of a journal's storage in a register: each fault on the way to the register and back, with lengths and counts
 //! worked out by hand. A group of one payload takes 44 bytes for its mark, 12 for the payload's head, and the payload.
-use journal_file::{AppendFault, Journal, Log};
-use journal_register::{FIRST_HEAD, Head, Owner};
+use journal_file::{AppendFault, Journal, JournalOpenFault, Log, LogEnd};
+use journal_register::{Extent, FIRST_HEAD, Head, Owner};
 use journal_remote::{Delivery, MemoryEngine, RemoteStorage, Tenure};
 use std::alloc::{AllocError, Global};
 use std::process::Abort;
@@ -195,4 +195,30 @@ fn group_without_its_last_chunk_is_not_there(rt: HostRuntime) {
     let engine = journal.into_storage().into_engine();
     expect_head(&rt, engine.head, 0, 0, 0);
     assert!(rt; engine.chunks.len() == 1);
+}
+
+/// Checks that no journal is opened where the head of a register without chunks says that its list ends so.
+fn expect_refused(rt: &impl Abort, alloc: Global, end: LogEnd) {
+    let extent = Extent {
+        end,
+        ..FIRST_HEAD.extent
+    };
+    let head = Head {
+        extent,
+        ..FIRST_HEAD
+    };
+    let tenure = Tenure { owner: FIRST, head };
+    let engine = MemoryEngine::new(alloc, FIRST, head, Vec::new(alloc));
+    let storage = RemoteStorage::new(alloc, engine, tenure, 3);
+    assert!(rt; matches!(Journal::open(alloc, storage), Err(JournalOpenFault::Failed)));
+}
+
+// A list of no payloads ends at 0 with the checksum 0.
+#[test]
+fn head_that_is_not_of_the_bytes_is_refused(rt: HostRuntime) {
+    let alloc = rt.alloc();
+    let end = LogEnd::of_empty_log();
+    expect_refused(&rt, alloc, LogEnd { position: 1, ..end });
+    expect_refused(&rt, alloc, LogEnd { sum: 1, ..end });
+    expect_refused(&rt, alloc, LogEnd { count: 1, ..end });
 }

@@ -86,8 +86,8 @@ returns-then-not-is_shown-clause-goes g c =
     (r c.args.engine.now) (r c.chunks.engine) (r c.look.new.engine) c.chunks.invariant.own
     (same_sends (sends c.chunks.engine) (sends c.look.new.engine) c.look.ensures.sent) c.chunks.invariant.goes c.look.ensures.goes
 
-pub returns-then-len-extent-clause-goes : goal.returns-then-len-extent-clause-goes
-returns-then-len-extent-clause-goes g c =
+pub returns-in_err-check_end-clause-goes : goal.returns-in_err-check_end-clause-goes
+returns-in_err-check_end-clause-goes g c =
     let r = g.E.Engine.register in
     let sends = g.E.Engine.sends in
     let is_own = g.E.Engine.is_own in

@@ -1,6 +1,7 @@
-use Rattle.std.proofs.Common.{◌≡◌, Bool, true, inr, sym, ap, subst, ◌∙◌}
+use Rattle.std.proofs.Common.{◌≡◌, Bool, true, inr, sym, subst}
 use Rattle.journal_file.specs.declared.log_end.LogEnd.{LogEnd}
 use Rattle.journal_register.specs.declared.owner.Owner.{Owner}
+use Rattle.journal_remote.specs.Ends.{EndsBehind}
 use Rattle.journal_remote.proofs.Carried.{current_when, owner_tests}
 use Rattle.journal_remote.proofs.Known.{keeps_more, current_next}
 use Rattle.journal_remote.proofs.remote_storage.RemoteStorageStorage.append.Goals as goal
@@ -24,4 +25,4 @@ returns g c = λ before keeps.
     let s = c.args.self.now in
     keeps_more s.tenure.owner s.tenure.head c.in_ok-head.head (g.E.Engine.register s.engine) (g.E.Engine.register c.put_group.new.engine) before c.args.bytes.now
     c.in_ok-head.ensures.appended (s.current c.if-self.false)
-    (ap (λ (e : LogEnd). e.position) c.in_ok-head.ensures.end ∙ c.in_ok-end.ensures.position) keeps
+    (subst (λ (e : LogEnd). EndsBehind s.tenure.head.extent.end c.args.bytes.now e) (sym c.in_ok-head.ensures.end) c.in_ok-end.ensures) keeps
