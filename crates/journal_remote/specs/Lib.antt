@@ -3,3 +3,4 @@ pub mod Joined
 pub mod Laid
 pub mod Ends
 pub mod Kept
+pub mod Budget

@@ -1,6 +1,7 @@
 //! The storage of a journal in the chunks of a register, beside the one in a file. No program uses it yet.
 #![tactic(auto)]
 
+mod budget;
 mod end;
 mod engine;
 mod fetch;
@@ -10,6 +11,7 @@ mod remote_storage;
 mod send;
 mod tenure;
 
+pub use budget::{LogBudget, LogUsage};
 pub use engine::Engine;
 pub use memory_engine::{Delivery, MemoryChunk, MemoryEngine};
 pub use remote_storage::RemoteStorage;
