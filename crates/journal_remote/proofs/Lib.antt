@@ -5,3 +5,4 @@ pub mod Carried
 pub mod Sending
 pub mod Laying
 pub mod Known
+pub mod Claimed

@@ -4,3 +4,4 @@ pub mod Laid
 pub mod Ends
 pub mod Kept
 pub mod Budget
+pub mod Watch

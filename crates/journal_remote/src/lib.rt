@@ -10,9 +10,11 @@ mod memory_engine;
 mod remote_storage;
 mod send;
 mod tenure;
+mod watch;
 
 pub use budget::{LogBudget, LogUsage};
 pub use engine::Engine;
 pub use memory_engine::{Delivery, MemoryChunk, MemoryEngine};
 pub use remote_storage::RemoteStorage;
 pub use tenure::{MOST_CHUNK, Tenure};
+pub use watch::{Watch, is_beat_due};

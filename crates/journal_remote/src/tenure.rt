@@ -1,7 +1,7 @@
 //! What an owner knows, and sends.
 ghost use Rattle.std.specs.Prelude.{◌≡◌, ◌&&◌};
 ghost use Rattle.journal_register.specs.Order.{is_owner, is_head};
-ghost use Rattle.journal_register.specs.Kinds.{chunk_behind, append_of};
+ghost use Rattle.journal_register.specs.Kinds.{chunk_behind, append_of, beat_of};
 
 use journal_file::LogEnd;
 use journal_register::{Head, Look, Owner, Transaction};
@@ -40,5 +40,12 @@ impl Tenure {
         ensures { result ≡ append_of self.owner self.head place end }
     {
         Transaction::append(self.owner, self.head, place, end)
+    }
+
+    /// Shows that the owner lives, where it has nothing to append. `None` where beats are used up.
+    pub fn beat(self) -> Option<Transaction>
+        ensures { result ≡ beat_of self.owner self.head }
+    {
+        Transaction::beat(self.owner, self.head)
     }
 }

@@ -1,6 +1,6 @@
 //! Tests of a register's transactions, of what an answer to one means, of looks, of what is said to etcd and what it
-//! answers; and of a journal's storage in a register, and its room. They use public items alone, and are a crate of
-//! their own, so that proving them doesn't prove the tested crates again.
+//! answers; and of a journal's storage in a register, its room and its standbys. They use public items alone, and are a
+//! crate of their own, so that proving them doesn't prove the tested crates again.
 #![tactic(auto)]
 
 #[cfg(test)]
@@ -11,3 +11,5 @@ mod etcd;
 mod register;
 #[cfg(test)]
 mod storage;
+#[cfg(test)]
+mod watch;
