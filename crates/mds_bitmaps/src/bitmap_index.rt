@@ -1,5 +1,5 @@
 //! The bitmaps of an operator's vehicles, cached by policy, and the verdicts that are made of them.
-ghost use Rattle.std.specs.Prelude.{◌≡◌, ◌≤◌, ◌∷◌, ◌++◌, [], List, ℕ, true, All, IfSome, drop, length};
+ghost use Rattle.std.specs.Prelude.{◌≡◌, ◌≤◌, ◌<◌, ◌/◌, ◌∷◌, ◌++◌, [], List, ℕ, true, All, IfSome, drop, length, max};
 ghost use Rattle.std.specs.BTreeMap.{IsOrdered, btree_map_len, keys};
 ghost use Rattle.mds_policy.specs.Policy.{policy_document};
 ghost use Rattle.mds_bitmaps.specs.Masks.{IsMask};
@@ -199,7 +199,9 @@ fn has_room(
 
 /// Whether a policy was asked about before. It counts as asked about from now on, unless out of
 /// memory.
-fn note_question(alloc: Global, asked: &mut Option<Vec<Id>>, policy: Id) -> bool {
+fn note_question(alloc: Global, asked: &mut Option<Vec<Id>>, policy: Id) -> bool
+    ensures known { result ≡ true → asked.new ≡ asked.old }
+{
     let mut policies = asked.take().unwrap_or_else(|| Vec::new(alloc));
     let is_there = policies.contains(&policy);
     if !is_there {
@@ -225,7 +227,8 @@ fn with_change(listed: IndexedFleet, device: Id) -> Option<IndexedFleet>
 /// Logs a changed device. `false` where the log of a fleet of this size has no room, or out of
 /// memory.
 pub(crate) fn log_change(changed: &mut Vec<Id>, fleet: usize, device: Id) -> bool
-    ensures { result ≡ true → changed.new.items ≡ changed.old.items ++ device ∷ [] }
+    ensures logged { result ≡ true → changed.new.items ≡ changed.old.items ++ device ∷ [] }
+    ensures bound { result ≡ true → length changed.old.items < max 64 (fleet / 8) }
 {
     changed.len() < LEAST_NOTES.max(fleet / 8) && changed.push(device).is_ok()
 }
