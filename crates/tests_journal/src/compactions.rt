@@ -183,7 +183,7 @@ fn the_first_journal_that_goes_further_tells(rt: HostRuntime) {
 }
 
 /// The text once the journal of these bytes is compacted, which is archived where an archive is given.
-fn compacted(
+fn text_after_compaction(
     rt: &impl Abort,
     alloc: Global,
     text: &str,
@@ -216,9 +216,9 @@ fn a_history_has_a_journal_for_each_moment(rt: HostRuntime) {
     let third = journal_bytes(alloc, THIRD).expect(&rt, "a journal");
     let mut kept = MemoryArchive::new(alloc, u32::MAX);
     let text = first_text(alloc, None).expect(&rt, "memory");
-    let text = compacted(&rt, alloc, text.as_str(), Some(&mut kept), &old);
-    let text = compacted(&rt, alloc, text.as_str(), None, &second);
-    let text = compacted(&rt, alloc, text.as_str(), Some(&mut kept), &third);
+    let text = text_after_compaction(&rt, alloc, text.as_str(), Some(&mut kept), &old);
+    let text = text_after_compaction(&rt, alloc, text.as_str(), None, &second);
+    let text = text_after_compaction(&rt, alloc, text.as_str(), Some(&mut kept), &third);
     assert!(rt; text.as_str() == "2002 journal-1000-2002\n3000 -\n4000 journal-1000-4000\n");
     let known = compactions(&rt, alloc, text.as_str());
     expect_archived(&rt, &known, 2001, "journal-1000-2002", 2002);

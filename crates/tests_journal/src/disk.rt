@@ -63,7 +63,7 @@ impl Disk {
     }
 
     /// How many compactions were recorded.
-    pub(crate) fn recorded(&self) -> u32 {
+    pub(crate) fn compaction_count(&self) -> u32 {
         self.recorded.get()
     }
 

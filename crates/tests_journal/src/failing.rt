@@ -140,11 +140,11 @@ fn fails<R: TestRuntime>(rt: &R, calls: u32, failing: FailingCalls) {
     };
     assert!(rt; has_journal(rt, &disk, standing), "at call {calls}");
     let recorded = u32::from(calls > RECORDED);
-    assert!(rt; disk.recorded() == recorded, "at call {calls}");
+    assert!(rt; disk.compaction_count() == recorded, "at call {calls}");
     disk.mend();
     assert!(rt; compact_on(rt, alloc, &disk) == again, "at call {calls}");
     assert!(rt; has_archived(rt, &disk, standing), "at call {calls}");
-    assert!(rt; disk.recorded() == recorded + 1, "at call {calls}");
+    assert!(rt; disk.compaction_count() == recorded + 1, "at call {calls}");
     assert!(rt; has_journal(rt, &disk, &thinned), "at call {calls}");
 }
 
