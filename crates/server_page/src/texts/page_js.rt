@@ -300,15 +300,15 @@ function failPast(past, fault) {
   if (fault.code === "role") refresh(true);
 }
 
-/** Whether an operator broke a rule at a moment; null where that isn't told. */
-async function wasBroken({ id, policy, index }, t, isDropped) {
+/** How a rule stood for an operator at a moment, `absent` where its policy wasn't in force; null where that isn't told. */
+async function stoodThen({ id, policy, index }, t, isDropped) {
   const key = `${id} ${t}`;
   try {
     const told = t < 0 ? null : answers.get(key) ?? await server.askPast(`app/compliance/${id}`, t, isDropped);
     if (!told || isDropped()) return null;
     answers.set(key, told);
     const report = told.policies.find((it) => isSame(it.policy_id, policy.policy_id));
-    return report?.rules[index].status === "violated";
+    return report ? report.rules[index].status : "absent";
   } catch (fault) {
     if (fault.code === "not_kept") return null;
     throw fault;
@@ -325,7 +325,7 @@ async function askSince(row) {
   };
   take({ isComing: true });
   try {
-    take(await sinceWhen(at, (t) => wasBroken(row, t, isDropped)));
+    take(await sinceWhen(at, (t) => stoodThen(row, t, isDropped)));
   } catch (fault) {
     if (isDropped()) return;
     if (fault.code === "token") return fail(fault);
