@@ -330,6 +330,16 @@ async function askSince(row) {
   }
 }
 
+/** Asks it of each of these rows, one after another, for as long as the same moment is shown and the server answers. */
+async function askEach(rows) {
+  const { sinces } = state;
+  for (const row of rows) {
+    if (sinces !== state.sinces || state.lacksPast) return;
+    await askSince(row);
+    if (sinces.get(rowKey(row))?.fault) return;
+  }
+}
+
 // --- Again and again ----------------------------------------------------------------------------------------------------
 
 /** Reads anew after some time. */
@@ -566,7 +576,7 @@ function bind() {
   document.onvisibilitychange = () => {
     if (document.visibilityState === "visible") soon(0);
   };
-  Object.assign(cards.actions, { replace: author.replace, withdraw: author.withdraw, askSince, narrow: widenPast,
+  Object.assign(cards.actions, { replace: author.replace, withdraw: author.withdraw, askSince, askEach, narrow: widenPast,
     askAgain: () => setMoment(state.moment) });
   author.start(() => refresh(true), fail);
   bindMoment();

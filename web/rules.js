@@ -279,7 +279,7 @@ export function measured(rule, { status, measure }, spans = []) {
     const far = measure ? overstay(rule, spans) : "";
     return (long ? `${count} for ${long}` : `${count}, for any time`) + (far && `: ${far}`);
   }
-  const far = excess(rule, measure);
+  const far = status === "violated" ? excess(rule, measure) : "";
   return (bound === "none" ? `${number(measure)}, none allowed` : `${number(measure)} of ${bound}`) + (far && `: ${far}`);
 }
 

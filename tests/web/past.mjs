@@ -262,7 +262,8 @@ async function untold(browser, tally) {
     is(`it isn't asked again: ${what}`, server.asked.length, 1);
     await page.click("#now");
     await tableTold(page, /160 of/);
-    ok(`nor is since when a rule is broken: ${what}`, !/Since when/.test(await page.text("#standing")), await page.text("#standing"));
+    ok(`nor is since when a rule is broken: ${what}`, await isHidden(page, "askeach")
+      && !/Since when/.test(await page.text("#standingtable, #sincenote")), await page.text("#standing"));
     await page.close();
     server.close();
   }

@@ -1,7 +1,6 @@
 // Who breaks which rule, by how much and since when, as the author's first view tells it: in the table and in CSV, before answers that
 // are made here. It is 17:00 on Saturday, 29 November 2025, by the server's clock, eight hours behind UTC.
 
-import { wait } from "./browser.mjs";
 import { inState, told } from "./looking.mjs";
 import { device, published, serve } from "./mock.mjs";
 import { downloaded, parsed } from "./oversight.mjs";
@@ -72,16 +71,19 @@ const AT_FIRST = "this time since 05:00 PM or earlier: broken already when this 
 const wanted = (first, second, measures = MEASURES) => [...Object.entries(first).map(([name, since]) => `Scoot | ${name} | ${since} | ${measures[name]}`),
   `Wheels | Always | ${second} | ${measures.Always}`].sort().join("\n");
 
-/** Asks of each broken rule since when it is so. */
-async function askAll(page) {
-  const next = () => page.run(() => {
-    const button = document.querySelector('#standingtable button[aria-label^="Since when?"]');
-    button?.click();
-    return button !== null;
-  });
-  for (let n = 0; n < 20 && await next(); n++) await wait(100);
-  await page.until(() => !/Asking/.test(document.getElementById("standingtable").textContent)
-    && !document.querySelector('#standingtable button[aria-label^="Since when?"]'));
+const BUTTONS = '#standingtable button[aria-label^="Since when?"]';
+
+/** Asks since when one broken rule is so, and then each of those that are left, by one button. */
+async function askAll(page, { is, ok }) {
+  const isShown = () => page.run(() => !document.getElementById("askeach").hidden);
+  await page.click(BUTTONS);
+  await page.until((it) => document.querySelectorAll(it).length === 5, BUTTONS);
+  ok("several are left, and a button for each of them", await isShown());
+  await page.click("#askeach");
+  is("which can't be pressed meanwhile", await page.run(() => document.getElementById("askeach").disabled), true);
+  await page.until((it) => !document.querySelector(it) && !/Asking/.test(document.getElementById("standingtable").textContent), BUTTONS);
+  await page.until(() => document.getElementById("askeach").hidden);
+  is("and which goes then", await isShown(), false);
 }
 
 // Asked are 15, 60, 240, .. minutes before 17:00, then halves until five minutes are left, in whole minutes: 16:45, 16:52, 16:48;
@@ -154,7 +156,7 @@ export default async function since(browser, _, tally) {
   is("the columns", await page.text("#standingtable thead th"), "Operator | Policy | Verdict | Broken since | Measure");
   ok("below the table it is said what counts", /may have been broken, and kept again, before/.test(await page.text("#sincenote")));
   ok("and by a title", /earlier time.*doesn’t count/.test(await page.run(() => document.querySelector("#standingtable td .small[title]").title)));
-  await askAll(page);
+  await askAll(page, tally);
   is("once it was asked", await rowsOf(page), wanted(ASKED, NOT_KEPT));
   await file(page, tally);
   await seen(page, server, tally);

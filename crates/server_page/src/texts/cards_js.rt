@@ -19,7 +19,7 @@ const TONES = { force: "good", soon: "soon", over: "" };
 const TOLD = 100, LONG = 400, ROUNDS_MISSED = 3, LEAST_MISSED = 60_000, FIRST_ROWS = 25, FIRST_ROWS_NARROW = 8, MORE_ROWS = 200;
 
 /** What the author does with a policy, and what asks the server; page.js sets it. */
-export const actions = { replace: null, withdraw: null, askSince: null, narrow: null, askAgain: null };
+export const actions = { replace: null, withdraw: null, askSince: null, askEach: null, narrow: null, askAgain: null };
 
 /** What stands beside what has a status, now or then. */
 function standingTag(status, when = state.moment === null ? "now" : "then") {
@@ -84,7 +84,7 @@ function meter(rule, { measure, status, isOwn }) {
     mark.style.left = `${bound / most * 100}%`;
     bar.append(mark);
   }
-  const far = rules.excess(rule, measure);
+  const far = status === "violated" ? rules.excess(rule, measure) : "";
   return el("div", {}, bar, el("p", { className: "small" }, `${number(measure)} counted${far && `: ${far}`}${own}`));
 }
 
@@ -331,6 +331,7 @@ function standingTable(chosen, open) {
 function showMore() {
   most += MORE_ROWS;
   renderTable();
+  showAskEach();
 }
 
 /** Choices of a list, made anew where they are others than before. */
@@ -409,6 +410,26 @@ const NO_SPANS = "By how many minutes vehicles stand too long is told only where
 const sinceNote = () => SPELL + SEEN + (state.lacksPast ? "" : ASKED) + (oversight() === "vehicles" ? "" : NO_SPANS)
   + "How they stood over days or weeks, the command “ruffletuff report” writes from the journal.";
 
+/** The rows in the table of which the server may be asked since when they are broken. */
+const openRows = () => chosenRows().slice(0, most).filter((it) => brokenSince(it).isOpen);
+
+let isAskingEach = false;
+
+/** Asks it of each of them. */
+async function askEach() {
+  isAskingEach = true;
+  showAskEach();
+  await actions.askEach(openRows());
+  isAskingEach = false;
+  if (state.me) render();
+}
+
+/** Shows the button for it, where there are several; it can't be pressed while they are asked. */
+function showAskEach() {
+  $("askeach").hidden = !isAskingEach && openRows().length < 2;
+  $("askeach").disabled = isAskingEach;
+}
+
 /** The operators and the policies that can be chosen. */
 function offerChoices() {
   const used = new Set(rows.map((it) => it.policy));
@@ -446,6 +467,7 @@ function renderStandings() {
   $("sincenote").textContent = sinceNote();
   offerChoices();
   renderTable();
+  showAskEach();
 }
 
 const CSV_HEAD = ["Moment (UTC)", "Operator", "Operator identifier", "Policy", "Policy identifier", "Rule", "Rule identifier",
@@ -489,6 +511,7 @@ export function start() {
   most = isNarrow ? FIRST_ROWS_NARROW : FIRST_ROWS;
   for (const id of ["byoperator", "bypolicy", "order", "brokenalone"]) $(id).onchange = anew;
   $("csv").onclick = downloadCsv;
+  $("askeach").onclick = askEach;
 }
 
 // --- How operators would stand by a draft -------------------------------------------------------------------------------
