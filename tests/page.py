@@ -6,7 +6,8 @@
 Expects for each file, at / or at its name: 200 with the bytes of web/, its type, a strong tag that is the SHA-256 of the bytes, and
 the fields that bind a browser; the same without the bytes for HEAD (RFC 9110, section 9.3.2); 304 without a body where `if-none-match`
 names the tag, weak or in a list, or is `*` (section 13.1.2), and 200 where it names another; 405 with `allow` for other methods
-(section 15.5.6). A query changes nothing. No path of the protocol, and none that is no file's, is answered by the page. With a member
+(section 15.5.6). A query changes nothing. What the author's view says of since when a rule is broken is in the files that are served,
+and no word that reads as a deadline. No path of the protocol, and none that is no file's, is answered by the page. With a member
 `page` the settings are what it gives, and the content policy has the origin of its tiles, and no more, beside the page's own pictures.
 Prints what is otherwise, and last 'N passed, M failed'; ends with 1 where one failed.
 """
@@ -41,6 +42,15 @@ SOURCES_WITH_TILES = (
     "default-src 'none'; script-src 'self'; worker-src 'self'; style-src 'self'; img-src 'self' data: https://tiles.example.org:8443; "
     "connect-src 'self'; form-action 'none'; base-uri 'none'; frame-ancestors 'none'"
 )
+# What is said of since when a rule is broken and by how much, and of the button for all of them; and what isn't said any more.
+SAID = {
+    "/": ('id="askeach"', "Since when, each?"),
+    "/cards.js": ("this time since", "or earlier: broken already when this page first looked", "what stood before that isn’t kept",
+                  "it wasn’t open", "the policy wasn’t in force", '"By how much", "Broken since (UTC)",',
+                  '"Broken since (local)", "Broken since (in words)"]'),
+    "/rules.js": ("too few", "too many", '"long"', '"short"'),
+}
+UNSAID = ("not yet at", "`before ${", " or before${")
 OTHERS = (
     *("/policies", "/geographies", "/fleet/vehicles", "/fleet/events", "/compliance", "/publish", "/drafts/policies/page.css"),
     *("/index.html", "/page", "/page.css/", "//", "/web/page.css", "/page.CSS", "/%70age.css", "/../page.css"),
@@ -119,6 +129,18 @@ def others_are_untouched(link):
             expect("etag" not in fields, f"{method} {path}: a tag")
 
 
+def since_is_told(link):
+    """The words of since when a rule is broken."""
+    for path, words in SAID.items():
+        status, _, body = ask(link, "GET", path)
+        text = body.decode()
+        expect(status == 200, f"GET {path}: {status}")
+        for word in words:
+            expect(word in text, f"GET {path}: nothing of {word}")
+        for word in UNSAID:
+            expect(word not in text, f"GET {path}: {word}")
+
+
 def settings_are_given(link):
     """What the configuration's member `page` gives; the files are the same but for the policy."""
     status, _, body = ask(link, "GET", "/settings.json")
@@ -156,6 +178,7 @@ def main():
             tried.one(name, asked(city, file_is_told, path, kind, text))
         tried.one("a whole URI", asked(city, a_whole_uri_is_told))
         tried.one("other paths", asked(city, others_are_untouched))
+        tried.one("since when", asked(city, since_is_told))
     for what, page, call in (("a page", PAGE, settings_are_given), ("no page", None, settings_are_usual)):
         with Alone(os.path.abspath(sys.argv[1]), json.dumps({**json.loads(configuration(2)), "page": page}).encode()) as city:
             tried.one(what, asked(city, call))

@@ -15,7 +15,7 @@ const TONES = { force: "good", soon: "soon", over: "" };
 const TOLD = 100, LONG = 400, ROUNDS_MISSED = 3, LEAST_MISSED = 60_000, FIRST_ROWS = 25, FIRST_ROWS_NARROW = 8, MORE_ROWS = 200;
 
 /** What the author does with a policy, and what asks the server; page.js sets it. */
-export const actions = { replace: null, withdraw: null, askSince: null, narrow: null, askAgain: null };
+export const actions = { replace: null, withdraw: null, askSince: null, askEach: null, narrow: null, askAgain: null };
 
 /** What stands beside what has a status, now or then. */
 function standingTag(status, when = state.moment === null ? "now" : "then") {
@@ -80,7 +80,8 @@ function meter(rule, { measure, status, isOwn }) {
     mark.style.left = `${bound / most * 100}%`;
     bar.append(mark);
   }
-  return el("div", {}, bar, el("p", { className: "small" }, `${number(measure)} counted${own}`));
+  const far = status === "violated" ? rules.excess(rule, measure) : "";
+  return el("div", {}, bar, el("p", { className: "small" }, `${number(measure)} counted${far && `: ${far}`}${own}`));
 }
 
 /** The vehicles of an operator that a broken rule counts, the first hundred of them. */
@@ -228,32 +229,65 @@ function chosenRows() {
   return rules.inOrder(left, $("order").value, operatorName);
 }
 
-/** Since when a rule is broken that is so at `at`, in the words of what was asked. */
-function askedSince({ from, before, isKept, isComing, fault }, at) {
-  if (isComing) return "asking since when…";
-  if (fault) return pastWords(fault);
-  const since = `since ${state.clock.since(from, at)}`;
-  if (before !== null) return `${since}, not yet at ${state.clock.since(before, from)}`;
-  return `${since} or before${isKept ? "" : ": what stood earlier isn’t kept"}`;
+const THIS_TIME = "An earlier time at which this rule was broken, and kept again in between, doesn’t count.";
+
+/** How a rule stood at a moment at which it wasn't broken, in words; `from` is the first one known at which it was. */
+function stoodWords(policy, { before, from, stood }) {
+  const { clock } = state, at = `at ${clock.since(before, from)}`, begun = rules.begin(policy);
+  if (stood === "inactive") return `${at} it wasn’t open`;
+  if (stood !== "absent") return `${at} it wasn’t broken`;
+  const isNew = policy.published_date > before, what = isNew ? "published" : "in force";
+  if (begun <= before || begun > from) return `${at} the policy wasn’t in force`;
+  return `${at} the policy wasn’t ${what} yet (in force since ${clock.since(begun, from)})`;
 }
 
-/** Since when a rule is broken, by what the page has seen or asked, empty where it isn't; and whether it may be asked. */
+/** Since when a rule is broken that is so at `at`, by what was asked: the first moment known, and in words. */
+function askedSince(policy, found, at) {
+  const { from, before, stood, isKept } = found, when = state.clock.since(from, at);
+  if (before !== null) {
+    const since = stood === "absent" ? "since" : "this time since";
+    return { from, text: `${since} ${when}; ${stoodWords(policy, found)}` };
+  }
+  const why = isKept ? "broken at each moment asked about, as far back as this page asks" : "what stood before that isn’t kept";
+  return { from, text: `this time since ${when} or earlier: ${why}` };
+}
+
+/**
+ * Since when a rule is broken, by what the page has seen or asked: `{from, text, isOpen}`. `from` is the first moment known at
+ * which it was, null where none is but the one that is shown; the text is empty where there is nothing to say; `isOpen` is
+ * whether the server may be asked.
+ */
 function brokenSince(row) {
-  if (row.verdict.status !== "violated") return { text: "", isOpen: false };
+  if (row.verdict.status !== "violated") return { from: null, text: "", isOpen: false };
   const key = rules.rowKey(row), { at } = shownStandings(), seen = state.moment === null ? state.seen.get(key) : null;
   // What was asked before the page saw the rule become as it is says nothing of it.
   const found = state.sinces.get(key), asked = seen?.from > found?.at || state.lacksPast ? null : found;
-  if (seen?.hasBegun) return { text: `since ${state.clock.since(seen.from, at)}`, isOpen: false };
-  if (asked) return { text: askedSince(asked, at), isOpen: Boolean(asked.fault) };
-  return { text: seen ? `before ${state.clock.since(seen.from, at)}` : "", isOpen: !state.lacksPast };
+  if (seen?.hasBegun) return { from: seen.from, text: `this time since ${state.clock.since(seen.from, at)}`, isOpen: false };
+  if (asked && !asked.isComing && !asked.fault) return { ...askedSince(row.policy, asked, at), isOpen: false };
+  const from = seen?.from ?? null, isOpen = !state.lacksPast && !asked?.isComing;
+  const first = seen ? `this time since ${state.clock.since(from, at)} or earlier: broken already when this page first looked` : "";
+  const said = asked?.isComing ? "Asking since when…" : asked?.fault ? pastWords(asked.fault) : "";
+  return { from, text: [first, said].filter(Boolean).join(". "), isOpen };
 }
+
+/** How long the vehicles that break a rule of time have stood, in milliseconds; none where the page doesn't know it of all. */
+function spansOf({ owner, rule, verdict }) {
+  const fleet = shownFleet(), { at } = shownStandings();
+  if (rule.rule_type !== "time" || verdict.status !== "violated" || !fleet || verdict.devices.length < verdict.measure) return [];
+  // One that moved after the vehicles were read could stand too long again only by now.
+  if (state.moment === null && Date.now() - state.fleetAt >= rules.longest(rule)) return [];
+  const places = verdict.devices.map((it) => rowOf(it, owner));
+  return places.includes(-1) ? [] : places.map((it) => Math.max(0, at - fleet.since[it]));
+}
+
+const measuredOf = (row) => rules.measured(row.rule, row.verdict, spansOf(row));
 
 // A narrow page shows rows as blocks, so the table's parts say what they are.
 const cell = (...inside) => el("td", { role: "cell" }, inside);
 
 function standingRow(row, open) {
   const { id, owner, policy, index, rule, verdict } = row, key = `${policy.policy_id}/${index}`;
-  const [tone, text] = standingTag(verdict.status), measure = rules.measured(rule, verdict);
+  const [tone, text] = standingTag(verdict.status), measure = measuredOf(row);
   const name = rule.name && rule.name !== policy.name ? rule.name : null;
   const shown = { "aria-pressed": String(state.shownRule === key), "aria-label": `Show on the map: ${policy.name} ${name || ""}` };
   const since = brokenSince(row), ask = () => el("div", {}, link("Since when?", () => actions.askSince(row),
@@ -261,8 +295,8 @@ function standingRow(row, open) {
   return el("tr", { role: "row", "data-key": `stands ${id} ${key}`, className: verdict.status === "violated" ? "bad" : "" },
     el("th", { role: "rowheader", scope: "row" }, operatorName(id)),
     cell(link(policy.name, () => showRule(rule, key), shown), name && el("div", { className: "small" }, name)),
-    cell(el("span", { className: `tag ${tone}` }, text), since.text && el("div", { className: "small" }, since.text),
-      since.isOpen && ask()),
+    cell(el("span", { className: `tag ${tone}` }, text)),
+    cell(since.text && el("div", { className: "small", title: THIS_TIME }, since.text), since.isOpen && ask()),
     cell(devices(verdict, `stands ${id} ${key}`, open, { owner, title: measure }) || measure));
 }
 
@@ -274,6 +308,8 @@ function moreRows(left) {
     el("button", { type: "button", id: "morerows", onclick: showMore }, text))];
 }
 
+const STANDING_HEAD = ["Operator", "Policy", "Verdict", "Broken since", "Measure"];
+
 /** The first rows of the table. */
 function standingTable(chosen, open) {
   const head = (name) => el("th", { role: "columnheader", scope: "col" }, name);
@@ -282,7 +318,7 @@ function standingTable(chosen, open) {
   if (!chosen.length) return [el("p", { className: "small" }, none)];
   return [
     el("table", { className: "standing", role: "table", "aria-labelledby": "standingtitle" },
-      el("thead", { role: "rowgroup" }, el("tr", { role: "row" }, ["Operator", "Policy", "Verdict", "Measure"].map(head))),
+      el("thead", { role: "rowgroup" }, el("tr", { role: "row" }, STANDING_HEAD.map(head))),
       el("tbody", { role: "rowgroup" }, chosen.slice(0, most).map((it) => standingRow(it, open)))),
     ...moreRows(chosen.length - most),
   ];
@@ -291,6 +327,7 @@ function standingTable(chosen, open) {
 function showMore() {
   most += MORE_ROWS;
   renderTable();
+  showAskEach();
 }
 
 /** Choices of a list, made anew where they are others than before. */
@@ -357,15 +394,37 @@ function standingNote() {
     + (untold.length ? ` How ${words(untold, "and")} stands wasn’t told.` : "");
 }
 
-const SEEN = "Broken “since” a time: this page saw the rule become broken then. “Before” a time: it was broken already "
-  + "when this page first looked. ";
+const SPELL = "“This time since” a time: since then the rule is broken without a break that this page knows of. "
+  + "It may have been broken, and kept again, before that. ";
+const SEEN = "“Or earlier”: that is the earliest time known at which it was broken, not the time at which it became so. ";
 const ASKED = "“Since when?” asks the server about a few earlier moments: the rule was broken at the first time that is "
-  + "named, and at each later one that was asked; at the second it wasn’t. Choose another moment below the map to see how "
-  + "operators stood then. ";
+  + "named, and at each later one that was asked; how it stood at the second is said beside it. Choose another moment below "
+  + "the map to see how operators stood then. ";
+const NO_SPANS = "By how many minutes vehicles stand too long is told only where the city is shown the vehicles. ";
 
 /** What is said below the table: of since when a rule is broken, and where the past is told. */
-const sinceNote = () => (state.moment === null ? SEEN : "") + (state.lacksPast ? "" : ASKED)
+const sinceNote = () => SPELL + SEEN + (state.lacksPast ? "" : ASKED) + (oversight() === "vehicles" ? "" : NO_SPANS)
   + "How they stood over days or weeks, the command “ruffletuff report” writes from the journal.";
+
+/** The rows in the table of which the server may be asked since when they are broken. */
+const openRows = () => chosenRows().slice(0, most).filter((it) => brokenSince(it).isOpen);
+
+let isAskingEach = false;
+
+/** Asks it of each of them. */
+async function askEach() {
+  isAskingEach = true;
+  showAskEach();
+  await actions.askEach(openRows());
+  isAskingEach = false;
+  if (state.me) render();
+}
+
+/** Shows the button for it, where there are several; it can't be pressed while they are asked. */
+function showAskEach() {
+  $("askeach").hidden = !isAskingEach && openRows().length < 2;
+  $("askeach").disabled = isAskingEach;
+}
 
 /** The operators and the policies that can be chosen. */
 function offerChoices() {
@@ -378,7 +437,8 @@ function offerChoices() {
 /** Shows the table, made anew only where it says something else than before. */
 function renderTable() {
   const chosen = chosenRows();
-  const told = chosen.slice(0, most).map((it) => [it.id, it.policy.policy_id, it.index, it.verdict, brokenSince(it)]);
+  const told = chosen.slice(0, most)
+    .map((it) => [it.id, it.policy.policy_id, it.index, it.verdict, brokenSince(it), measuredOf(it)]);
   const said = JSON.stringify([told, chosen.length, rows.length, state.moment, state.shownRule, oversight(),
     state.me.operators]);
   if (said === shownRows) return;
@@ -403,10 +463,22 @@ function renderStandings() {
   $("sincenote").textContent = sinceNote();
   offerChoices();
   renderTable();
+  showAskEach();
 }
 
 const CSV_HEAD = ["Moment (UTC)", "Operator", "Operator identifier", "Policy", "Policy identifier", "Rule", "Rule identifier",
-  "Verdict", "Measure", "At least", "At most", "Unit", "Vehicles (the first 100)"];
+  "Verdict", "Measure", "At least", "At most", "Unit", "Vehicles (the first 100)", "By how much", "Broken since (UTC)",
+  "Broken since (local)", "Broken since (in words)"];
+
+/** By how much a rule is broken and since when, as values of CSV: moments are the first that are known. */
+function sinceValues(row) {
+  const { rule, verdict } = row;
+  if (verdict.status !== "violated") return ["", "", "", ""];
+  const far = rule.rule_type === "time" ? rules.overstay(rule, spansOf(row)) : rules.excess(rule, verdict.measure);
+  const { from, text } = brokenSince(row);
+  const moments = from === null ? ["", ""] : [new Date(from).toISOString(), state.clock.stamp(from)];
+  return [far, ...moments, text || "not asked"];
+}
 
 /** The table as CSV, with all rows that are chosen. */
 function standingCsv() {
@@ -414,7 +486,7 @@ function standingCsv() {
   const line = ({ id, policy, rule, verdict }) => [moment, operatorName(id), id, policy.name, policy.policy_id, rule.name,
     rule.rule_id, standingTag(verdict.status)[1].replace(/^[✓✗–] /, ""), verdict.measure, rule.minimum, rule.maximum,
     rule.rule_type === "time" ? rule.rule_units : "vehicles", (verdict.devices || []).join(" ")];
-  return csv([CSV_HEAD, ...chosenRows().map(line)]);
+  return csv([CSV_HEAD, ...chosenRows().map((it) => [...line(it), ...sinceValues(it)])]);
 }
 
 function downloadCsv() {
@@ -435,6 +507,7 @@ export function start() {
   most = isNarrow ? FIRST_ROWS_NARROW : FIRST_ROWS;
   for (const id of ["byoperator", "bypolicy", "order", "brokenalone"]) $(id).onchange = anew;
   $("csv").onclick = downloadCsv;
+  $("askeach").onclick = askEach;
 }
 
 // --- How operators would stand by a draft -------------------------------------------------------------------------------

@@ -33,7 +33,7 @@ export const EVENTS = ["agency_drop_off", "agency_pick_up", "battery_charged", "
 // --- In force or not ----------------------------------------------------------------------------------------------------
 
 /** The moment from which a policy supersedes what it lists, and may be in force. */
-const begin = (policy) => Math.max(policy.published_date, policy.start_date);
+export const begin = (policy) => Math.max(policy.published_date, policy.start_date);
 
 /** What has ended a policy by a moment: `{at, kind, by?}`, the earliest; null where nothing has. */
 function ending(policy, t, { policies, withdrawals }) {
@@ -233,15 +233,54 @@ function tooLong(rule) {
   return [low === null ? null : under, high === null ? null : over].filter(Boolean).join(", or for ");
 }
 
-/** How many vehicles a rule counts against its bounds, in words: `12 of at most 10`. Empty where it isn't judged. */
-export function measured(rule, { status, measure }) {
+/** By how many vehicles a count is outside a rule's bounds, in words: `2 too many`, `7 too few`; empty where it is within. */
+export function excess(rule, measure) {
+  const low = rule.minimum ?? null, high = rule.maximum ?? null;
+  // A measure that is equal to a bound which isn't inclusive is one outside.
+  const least = low + (rule.inclusive_minimum === false ? 1 : 0), most = high - (rule.inclusive_maximum === false ? 1 : 0);
+  if (low !== null && measure < least) return `${number(least - measure)} too few`;
+  return high !== null && measure > most ? `${number(measure - most)} too many` : "";
+}
+
+/** For how many milliseconds a vehicle may stand by a rule of time; for any number where it has no such bound. */
+export const longest = (rule) => (rule.maximum == null ? Infinity : rule.maximum * UNITS[rule.rule_units]);
+
+/** Milliseconds in whole minutes, in words. */
+function inMinutes(milliseconds) {
+  const minutes = Math.floor(milliseconds / UNITS.minutes);
+  if (!minutes) return "less than a minute";
+  return `${number(minutes)} minute${minutes === 1 ? "" : "s"}`;
+}
+
+/**
+ * How far vehicles that have stood for so many milliseconds are outside a rule of time, in words: of one vehicle
+ * `130 minutes too long`, of several that of the worst, `up to 130 minutes too long`; empty where one isn't outside.
+ */
+export function overstay(rule, spans) {
+  const unit = UNITS[rule.rule_units], low = rule.minimum ?? null, high = rule.maximum ?? null;
+  const outside = spans.filter((it) => !isWithin(rule, it, unit)), upTo = outside.length > 1 ? "up to " : "";
+  // Vehicles of another moment than the verdict's say nothing of it.
+  if (outside.length < spans.length) return "";
+  const long = outside.filter((it) => high !== null && it >= high * unit).map((it) => it - high * unit);
+  const short = outside.filter((it) => low !== null && it <= low * unit).map((it) => low * unit - it);
+  const worst = (list, what) => (list.length ? [`${upTo}${inMinutes(Math.max(...list))} too ${what}`] : []);
+  return [...worst(long, "long"), ...worst(short, "short")].join(", ");
+}
+
+/**
+ * How many vehicles a rule counts against its bounds, and how far that is off, in words: `12 of at most 10: 2 too many`. Of a
+ * rule of time it is as far as is known how long the vehicles have stood. Empty where it isn't judged.
+ */
+export function measured(rule, { status, measure }, spans = []) {
   if (status !== "ok" && status !== "violated") return "";
   const text = bounds(rule), bound = text[0].toLowerCase() + text.slice(1);
   if (rule.rule_type === "time") {
     const count = measure ? `${number(measure)} vehicle${measure === 1 ? "" : "s"}` : "no vehicle", long = tooLong(rule);
-    return long ? `${count} for ${long}` : `${count}, for any time`;
+    const far = measure ? overstay(rule, spans) : "";
+    return (long ? `${count} for ${long}` : `${count}, for any time`) + (far && `: ${far}`);
   }
-  return bound === "none" ? `${number(measure)}, none allowed` : `${number(measure)} of ${bound}`;
+  const far = status === "violated" ? excess(rule, measure) : "";
+  return (bound === "none" ? `${number(measure)}, none allowed` : `${number(measure)} of ${bound}`) + (far && `: ${far}`);
 }
 
 // --- How operators stand ------------------------------------------------------------------------------------------------
@@ -288,29 +327,25 @@ export function remember(before, rows, at, longest) {
 const STEPS_BACK = [15, 60, 240, 960, 3_840, 15_360, 61_440], NEAR = 5 * 60_000, MOST_HALVES = 8;
 
 /**
- * Since when something is so, by few questions: further and further back until it wasn't so, and from there by halves.
- * `wasSo` says of a moment, in whole minutes, whether it was so then, or null where that isn't told. Answers
- * `{from, before, isKept}`: it was so at `from` and at each later moment that was asked, and wasn't at `before`, which is
- * null where it was so each time; `isKept` is false where an earlier moment isn't told.
+ * Since when a rule is broken, by few questions: further and further back until it wasn't, and from there by halves.
+ * `stoodAt` says of a moment, in whole minutes, which status the rule had then, `absent` where its policy wasn't in force, or
+ * null where that isn't told. Answers `{from, before, stood, isKept}`: it was `violated` at `from` and at each later moment
+ * that was asked, and wasn't at `before`, when it stood as `stood` says; both are null where it was each time. `isKept` is
+ * false where an earlier moment isn't told.
  */
-export async function sinceWhen(at, wasSo) {
+export async function sinceWhen(at, stoodAt) {
   const minute = (t) => Math.floor(t / 60_000) * 60_000;
-  let from = at, before = null, was = true;
-  for (const minutes of STEPS_BACK) {
-    const t = minute(at - minutes * 60_000);
-    was = await wasSo(t);
-    if (was === false) before = t;
-    if (was !== true) break;
-    from = t;
-  }
-  for (let n = 0; n < MOST_HALVES && before !== null && from - before > NEAR; n++) {
-    const t = minute((before + from) / 2);
-    was = await wasSo(t);
-    if (was === null) break;
-    if (was) from = t;
-    else before = t;
-  }
-  return { from, before, isKept: was !== null };
+  let from = at, before = null, stood = null, isKept = true;
+  const ask = async (t) => {
+    const told = await stoodAt(t);
+    isKept = told !== null;
+    if (told === "violated") from = t;
+    else if (isKept) [before, stood] = [t, told];
+    return told;
+  };
+  for (const minutes of STEPS_BACK) if (await ask(minute(at - minutes * 60_000)) !== "violated") break;
+  for (let n = 0; n < MOST_HALVES && isKept && before !== null && from - before > NEAR; n++) await ask(minute((before + from) / 2));
+  return { from, before, stood, isKept };
 }
 
 // --- Likely mistakes ----------------------------------------------------------------------------------------------------

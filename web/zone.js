@@ -77,6 +77,13 @@ export class Clock {
     return day(moment) === day(t) ? minutes.format(local(moment)) : this.when(moment);
   }
 
+  /** The moment in local time with its offset (RFC 3339), to the millisecond. */
+  stamp(t) {
+    const minutes = Math.abs(this.offset(t) / MINUTE), two = (it) => String(Math.floor(it)).padStart(2, "0");
+    const local = new Date(t + this.offset(t)).toISOString().slice(0, -1);
+    return `${local}${this.offset(t) < 0 ? "-" : "+"}${two(minutes / 60)}:${two(minutes % 60)}`;
+  }
+
   /** The time of day of the moment to the second, in local time. */
   time(t) {
     return seconds.format(t + this.offset(t));

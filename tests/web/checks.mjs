@@ -1,7 +1,7 @@
 // Checks of the page in Chromium: node checks.mjs PROGRAM [GROUP]..
 //
 // PROGRAM is a built ruffletuff, whose own page it is, or mds_serve with the page beside it; the groups are operator, author, forms,
-// foresight, everyone, settings, little, whole, hostile, many, past, browsers, coming, large, access, all where none is named.
+// foresight, everyone, settings, little, whole, hostile, many, past, since, browsers, coming, large, access, all where none is named.
 // Prints what doesn't hold, and last 'N passed, M failed'; ends with 1 where one doesn't.
 
 import access from "./access.mjs";
@@ -16,9 +16,10 @@ import settings from "./given.mjs";
 import operator from "./operator.mjs";
 import { hostile, little, many, whole } from "./oversight.mjs";
 import past from "./past.mjs";
+import since from "./since.mjs";
 import { Tally } from "./tally.mjs";
 
-const GROUPS = { operator, author, forms, foresight, everyone, settings, little, whole, hostile, many, past,
+const GROUPS = { operator, author, forms, foresight, everyone, settings, little, whole, hostile, many, past, since,
   browsers: twoBrowsers, coming: comingAndGoing, large, access };
 const [, , program, ...names] = process.argv, tally = new Tally();
 const browser = new Browser();

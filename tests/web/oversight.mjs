@@ -167,10 +167,13 @@ async function csv(page, city, { is, ok }) {
   const [head, ...lines] = parsed(text.slice(1).replace(/\r\n$/, "")), at = (title) => head.indexOf(title);
   const rows = lines.map((it) => [it[at("Operator")], it[at("Rule")], it[at("Verdict")]].join(" | "));
   is("it has what each operator is answered", sorted(rows), sorted(await wanted(city)));
+  is("kept rules have no time", lines.filter((it) => it[at("Verdict")] !== "broken" && it.slice(at("By how much")).join("")).length, 0);
+  ok("broken ones have the first moment that is known, in words too", lines.filter((it) => it[at("Verdict")] === "broken").every((it) =>
+    Date.parse(it[at("Broken since (UTC)")]) === Date.parse(it[at("Broken since (local)")]) && / or earlier/.test(it[at("Broken since (in words)")])), lines);
   const cap = lines.find((it) => it[at("Measure")] === "141");
   is("with numbers and bounds", [cap[at("At least")], cap[at("At most")], cap[at("Unit")]].join(), ",150,vehicles");
   const reports = (await city.sure("scoot", "GET", "/compliance")).policies.flatMap((it) => it.rules);
-  is("and the vehicles that break a rule", lines.find((it) => it[at("Measure")] === "5").at(-1), reports.find((it) => it.measure === 5).devices.join(" "));
+  is("and the vehicles that break a rule", lines.find((it) => it[at("Measure")] === "5")[at("Vehicles (the first 100)")], reports.find((it) => it.measure === 5).devices.join(" "));
 }
 
 /** Another moment than now shows the author nothing of now: before all was published, by whether the server tells that, and to come. */
@@ -236,8 +239,8 @@ export async function whole(browser, program, { is, ok }) {
 /** A rule that was broken at the first look, and one that is seen to break; and where the past is told. */
 async function since(page, city, [lng, lat], { is, ok }) {
   const told_ = (text) => page.run((it) => [...document.querySelectorAll("#standingtable tbody tr")]
-    .filter((row) => row.className === "bad" && row.textContent.includes(it)).map((row) => row.querySelectorAll("td")[1].textContent).join(), text);
-  ok("a rule that was broken at the first look", /^✗ brokenbefore \d/.test(await told_("for more than 72 hours")), await told_("for more than 72 hours"));
+    .filter((row) => row.className === "bad" && row.textContent.includes(it)).map((row) => [1, 2].map((n) => row.querySelectorAll("td")[n].textContent).join(": ")).join(), text);
+  ok("a rule that was broken at the first look", /^✗ broken: this time since \d.* or earlier: broken already when this page first looked/.test(await told_("for more than 72 hours")), await told_("for more than 72 hours"));
   is("one that is kept has no time", await page.run(() =>
     [...document.querySelectorAll("#standingtable tr:not(.bad)")].filter((it) => /(since|before) \d/.test(it.textContent)).length), 0);
   for (let n = 2; n < 11; n++) {
@@ -245,7 +248,7 @@ async function since(page, city, [lng, lat], { is, ok }) {
       timestamp: Date.now() - 1000, location: { lat, lng } });
   }
   await told(page, "#standingtable", /151 of at most 150/);
-  ok("a rule that is seen to break", /^✗ brokensince \d/.test(await told_("151 of at most 150")), await told_("151 of at most 150"));
+  ok("a rule that is seen to break", /^✗ broken: this time since \d(?!.*or earlier)/.test(await told_("151 of at most 150")), await told_("151 of at most 150"));
   ok("where the past is told", /ruffletuff report/.test(await page.text("#standingview")));
 }
 

@@ -262,7 +262,8 @@ async function untold(browser, tally) {
     is(`it isn't asked again: ${what}`, server.asked.length, 1);
     await page.click("#now");
     await tableTold(page, /160 of/);
-    ok(`nor is since when a rule is broken: ${what}`, !/Since when/.test(await page.text("#standing")), await page.text("#standing"));
+    ok(`nor is since when a rule is broken: ${what}`, await isHidden(page, "askeach")
+      && !/Since when/.test(await page.text("#standingtable, #sincenote")), await page.text("#standing"));
     await page.close();
     server.close();
   }
@@ -334,8 +335,8 @@ async function since(browser, { is, ok }) {
   is("nothing is asked before", takeAsked(server), "");
   await page.run((it) => document.querySelector(it).focus(), SINCE);
   await page.click(SINCE);
-  const said = await tableTold(page, /not yet at/);
-  ok("since when it is broken, and when it wasn't yet", /✗ brokensince .*\d\d.*, not yet at .*\d\d/.test(said), said);
+  const said = await tableTold(page, /it wasn’t broken/);
+  ok("since when it is broken, and when it wasn't", /✗ brokenthis time since .*\d\d.*; at .*\d\d.* it wasn’t broken/.test(said), said);
   const found = await inState(page, (it) => [...it.sinces.values()][0]);
   ok("as near as five minutes", found.from >= begun && found.before < begun && found.from - found.before <= 5 * MINUTE, { begun, ...found });
   const asked = server.asked.splice(0);
@@ -344,14 +345,14 @@ async function since(browser, { is, ok }) {
   is("one at a time", server.most, 1);
   await page.click("#refresh");
   await wait(500);
-  ok("a round leaves it", /not yet at/.test(await page.text("#standingtable")));
+  ok("a round leaves it", /it wasn’t broken/.test(await page.text("#standingtable")));
   const t = before(1);
   server.past = (path, at) => (at < t - 20 * MINUTE ? NOT_KEPT : past(path, at));
   await go(page, t);
   await tableTold(page, /177 of/);
   await page.click(SINCE);
   const kept = await tableTold(page, /isn’t kept/);
-  ok("what isn't kept ends it", /since .* or before: what stood earlier isn’t kept/.test(kept), kept);
+  ok("what isn't kept ends it", /this time since .* or earlier: what stood before that isn’t kept/.test(kept), kept);
   await hurry(page);
   server.past = (path, at) => (path.endsWith(SCOOT) && /compliance/.test(path) ? BUSY : past(path, at));
   await go(page, before(1.5));

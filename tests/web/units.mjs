@@ -152,11 +152,22 @@ ok("and is a token of the protocol", words.flat().every((it) => /^[a-z0-9_]{1,40
 
 const measured = (more, status, measure) => rules.measured(rule(more), { status, measure });
 is("a count against its bounds", [measured({ maximum: 10 }, "violated", 12), measured({ maximum: 0 }, "violated", 3), measured({ minimum: 4 }, "ok", 4),
-  measured({ maximum: 10, inclusive_maximum: false }, "violated", 1200)].join("; "), "12 of at most 10; 3, none allowed; 4 of at least 4; 1,200 of fewer than 10");
+  measured({ maximum: 10, inclusive_maximum: false }, "violated", 1200)].join("; "), "12 of at most 10: 2 too many; 3, none allowed: 3 too many; 4 of at least 4; 1,200 of fewer than 10: 1,191 too many");
+is("a count that is too low", [measured({ minimum: 40 }, "violated", 33), measured({ minimum: 40, inclusive_minimum: false }, "violated", 40),
+  measured({ minimum: 10, maximum: 40 }, "violated", 45)].join("; "),
+"33 of at least 40: 7 too few; 40 of more than 40: 1 too few; 45 of at least 10, at most 40: 5 too many");
 const time = { rule_type: "time", rule_units: "hours" };
 is("a time against its bounds", [measured({ ...time, maximum: 72 }, "violated", 9), measured({ ...time, maximum: 24, inclusive_maximum: false }, "ok", 0),
   measured({ ...time, minimum: 2, maximum: 24 }, "violated", 1)].join("; "),
 "9 vehicles for more than 72 hours; no vehicle for 24 hours or more; 1 vehicle for less than 2 hours, or for more than 24 hours");
+const stoodFor = (more, ...minutes) => rules.measured(rule({ ...time, ...more }), { status: "violated", measure: minutes.length },
+  minutes.map((it) => it * 60_000));
+is("and how far it is off, in minutes", [stoodFor({ maximum: 72 }, 72 * 60 + 130), stoodFor({ maximum: 1 }, 61, 100, 99),
+  stoodFor({ rule_units: "days", maximum: 1, inclusive_maximum: false }, 1440), stoodFor({ minimum: 2 }, 119, 90), stoodFor({ minimum: 2, maximum: 24 }, 90, 2440)]
+  .join("; "), "1 vehicle for more than 72 hours: 130 minutes too long; 3 vehicles for more than 1 hours: up to 40 minutes too long; "
+  + "1 vehicle for 1 days or more: less than a minute too long; 2 vehicles for less than 2 hours: up to 30 minutes too short; "
+  + "2 vehicles for less than 2 hours, or for more than 24 hours: up to 1,000 minutes too long, up to 30 minutes too short");
+is("unless a vehicle stood otherwise then", stoodFor({ maximum: 1 }, 61, 60), "2 vehicles for more than 1 hours");
 is("what isn't judged has no measure", [measured({}, "inactive", 0), measured({ rule_type: "speed" }, "not_evaluated", 0)].join(), ",");
 const ruled = (id, ...names) => policy(id, { policy_id: id, name: id, rules: names.map((name) => rule({ name })) });
 const reports = (...list) => ({ policies: list.map(([policy_id, ...statuses]) => ({ policy_id, rules: statuses.map((status) => ({ status, measure: 0 })) })) });
@@ -184,6 +195,9 @@ is("a rule that wasn't told of meanwhile", lookedAt([100, "ok"], [130, null], [1
 const east = new Clock("+02:00"), dayTime = new Intl.DateTimeFormat(undefined, { timeZone: "UTC", hour: "2-digit", minute: "2-digit" });
 is("a moment of the same local day", east.since(Date.UTC(2026, 0, 4, 22, 5), Date.UTC(2026, 0, 5, 21, 59)), dayTime.format(Date.UTC(2026, 0, 5, 0, 5)));
 is("a moment of another one", east.since(Date.UTC(2026, 0, 4, 21, 59), Date.UTC(2026, 0, 4, 22, 5)), east.when(Date.UTC(2026, 0, 4, 21, 59)));
+is("a moment in local time with its offset", [["-03:30", "2026-01-04T18:35:00.000-03:30"], ["Z", "2026-01-04T22:05:00.000+00:00"],
+  ["PST8PDT,M3.2.0,M11.1.0", "2026-01-04T14:05:00.000-08:00"]].map(([text, wanted]) => new Clock(text).stamp(Date.UTC(2026, 0, 4, 22, 5)) === wanted).join(),
+"true,true,true");
 is("CSV by RFC 4180, without a formula", csv([["a", 'b "c"', "d,e", "f\ng"], ["=1+1", "+1", "-1", "@x", "\tx", "'x"], [-1, null, undefined, 0]]),
   "a,\"b \"\"c\"\"\",\"d,e\",\"f\ng\"\r\n'=1+1,'+1,'-1,'@x,'\tx,'x\r\n-1,,,0\r\n");
 
@@ -192,12 +206,13 @@ is("CSV by RFC 4180, without a formula", csv([["a", 'b "c"', "d,e", "f\ng"], ["=
 /** Since when something is so that was so at some moments, counted in minutes before now, by how many questions. */
 async function sinceWhen(wasSo, now = Date.UTC(2026, 10, 29, 12, 0, 30)) {
   const asked = [], minutes = (t) => Math.ceil((now - t) / 60_000);
-  const { from, before, isKept } = await rules.sinceWhen(now, async (t) => {
+  const { from, before, stood, isKept } = await rules.sinceWhen(now, async (t) => {
     asked.push(t);
-    return wasSo(minutes(t));
+    const told = wasSo(minutes(t));
+    return typeof told === "boolean" ? told ? "violated" : "ok" : told;
   });
   const isWhole = asked.every((it) => it % 60_000 === 0), isOnce = new Set(asked).size === asked.length;
-  return { from: minutes(from), before: before && minutes(before), isKept, count: asked.length, isWhole, isOnce };
+  return { from: minutes(from), before: before && minutes(before), stood, isKept, count: asked.length, isWhole, isOnce };
 }
 
 for (const age of [1, 4, 5, 14, 16, 59, 61, 200, 239, 241, 1_000, 5_000, 20_000]) {
@@ -206,13 +221,16 @@ for (const age of [1, 4, 5, 14, 16, 59, 61, 200, 239, 241, 1_000, 5_000, 20_000]
   ok(`by few questions, of whole minutes, each once: ${age}`, count <= 15 && isWhole && isOnce, { count, isWhole, isOnce });
 }
 is("so for longer than is asked", JSON.stringify(await sinceWhen(() => true)),
-  '{"from":61441,"before":null,"isKept":true,"count":7,"isWhole":true,"isOnce":true}');
+  '{"from":61441,"before":null,"stood":null,"isKept":true,"count":7,"isWhole":true,"isOnce":true}');
 is("so as long as it is told", JSON.stringify(await sinceWhen((it) => (it > 900 ? null : true))),
-  '{"from":241,"before":null,"isKept":false,"count":4,"isWhole":true,"isOnce":true}');
+  '{"from":241,"before":null,"stood":null,"isKept":false,"count":4,"isWhole":true,"isOnce":true}');
 is("nothing is told", JSON.stringify(await sinceWhen(() => null)),
-  '{"from":0,"before":null,"isKept":false,"count":1,"isWhole":true,"isOnce":true}');
+  '{"from":0,"before":null,"stood":null,"isKept":false,"count":1,"isWhole":true,"isOnce":true}');
 const gap = await sinceWhen((it) => (it > 100 && it < 200 ? null : it <= 150));
-is("what isn't told in between ends it", [gap.from, gap.before, gap.count].join(), "61,241,4");
+is("what isn't told in between ends it", [gap.from, gap.before, gap.stood, gap.count].join(), "61,241,ok,4");
+// 15, 60, 38, 27, 21 and 18 minutes back, to whole minutes before: closed at 18, in force no longer at 21 and earlier.
+const shut = await sinceWhen((it) => (it <= 16 ? "violated" : it < 20 ? "inactive" : "absent"));
+is("how it stood at the last moment at which it wasn't so", [shut.from, shut.before, shut.stood].join(), "16,19,inactive");
 
 // --- Asking of the past -------------------------------------------------------------------------------------------------
 

@@ -54,6 +54,7 @@ pub const INDEX_HTML: &str = r##"<!doctype html>
           <option value="policy">by policy</option>
         </select></label>
         <label class="check"><input type="checkbox" id="brokenalone"> Only broken rules</label>
+        <button type="button" id="askeach" hidden>Since when, each?</button>
         <button type="button" id="csv">Download as CSV</button>
       </div>
       <div id="standingtable"></div>

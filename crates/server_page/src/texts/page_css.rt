@@ -194,9 +194,10 @@ table { width: 100%; table-layout: fixed; border-collapse: collapse; font-size: 
 td:first-child { width: 42%; }
 td, th { text-align: left; vertical-align: top; padding: .25rem .3rem; border-top: 1px solid var(--line); }
 th { font-weight: 600; overflow-wrap: anywhere; }
-.standing th:first-child { width: 18%; }
-.standing th:nth-child(2) { width: 40%; }
-.standing th:nth-child(3) { width: 9rem; }
+.standing th:first-child { width: 14%; }
+.standing th:nth-child(2) { width: 22%; }
+.standing th:nth-child(3) { width: 6.5rem; }
+.standing th:nth-child(4) { width: 32%; }
 .foresight { margin: .2rem 0 .5rem; table-layout: auto; }
 .foresight th, .foresight td { width: auto; overflow-wrap: break-word; }
 .foresight thead th { font-size: .8rem; color: var(--dim); border: 0; }
@@ -226,7 +227,8 @@ dialog::backdrop { background: #0008; }
   .standing th, .standing td { border: 0; width: auto !important; }
   .standing tbody th { flex: 1 1 40%; }
   .standing td:nth-child(3) { order: 0; }
-  .standing td:nth-child(2), .standing td:nth-child(4) { flex: 1 1 100%; order: 1; }
+  .standing td:nth-child(2), .standing td:nth-child(4), .standing td:nth-child(5) { flex: 1 1 100%; order: 1; }
+  .standing td:empty { display: none; }
   .tiles b { font-size: 1.1rem; }
   #legend { font-size: .7rem; }
 }

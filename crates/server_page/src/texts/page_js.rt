@@ -300,15 +300,15 @@ function failPast(past, fault) {
   if (fault.code === "role") refresh(true);
 }
 
-/** Whether an operator broke a rule at a moment; null where that isn't told. */
-async function wasBroken({ id, policy, index }, t, isDropped) {
+/** How a rule stood for an operator at a moment, `absent` where its policy wasn't in force; null where that isn't told. */
+async function stoodThen({ id, policy, index }, t, isDropped) {
   const key = `${id} ${t}`;
   try {
     const told = t < 0 ? null : answers.get(key) ?? await server.askPast(`app/compliance/${id}`, t, isDropped);
     if (!told || isDropped()) return null;
     answers.set(key, told);
     const report = told.policies.find((it) => isSame(it.policy_id, policy.policy_id));
-    return report?.rules[index].status === "violated";
+    return report ? report.rules[index].status : "absent";
   } catch (fault) {
     if (fault.code === "not_kept") return null;
     throw fault;
@@ -325,12 +325,22 @@ async function askSince(row) {
   };
   take({ isComing: true });
   try {
-    take(await sinceWhen(at, (t) => wasBroken(row, t, isDropped)));
+    take(await sinceWhen(at, (t) => stoodThen(row, t, isDropped)));
   } catch (fault) {
     if (isDropped()) return;
     if (fault.code === "token") return fail(fault);
     if (fault.code === "untold") state.lacksPast = true;
     take({ fault });
+  }
+}
+
+/** Asks it of each of these rows, one after another, for as long as the same moment is shown and the server answers. */
+async function askEach(rows) {
+  const { sinces } = state;
+  for (const row of rows) {
+    if (sinces !== state.sinces || state.lacksPast) return;
+    await askSince(row);
+    if (sinces.get(rowKey(row))?.fault) return;
   }
 }
 
@@ -570,7 +580,7 @@ function bind() {
   document.onvisibilitychange = () => {
     if (document.visibilityState === "visible") soon(0);
   };
-  Object.assign(cards.actions, { replace: author.replace, withdraw: author.withdraw, askSince, narrow: widenPast,
+  Object.assign(cards.actions, { replace: author.replace, withdraw: author.withdraw, askSince, askEach, narrow: widenPast,
     askAgain: () => setMoment(state.moment) });
   author.start(() => refresh(true), fail);
   bindMoment();
