@@ -10,6 +10,7 @@ ghost use Rattle.journal_commit.specs.declared.reserved_space.TheConstants.{STEP
 
 use crate::client_shares::ClientShares;
 use crate::decisions::{MOST_TEXTS, MOST_TEXTS_OF_ONE, Round, Usage, next_round};
+use crate::failure::LogFailure;
 use crate::history::{CommitLedger, LogName, LogPosition};
 use crate::reserved_space::{ReservedSpace, STEP};
 use crate::space::{NoRoom, Space};
@@ -35,7 +36,7 @@ pub enum ReserveFault {
     /// The flusher is to stop, or has stopped.
     Stopping,
     /// An append or a sync failed: no response leaves any more.
-    Failed,
+    Failed(LogFailure),
 }
 
 impl From<NoRoom> for ReserveFault {

@@ -7,13 +7,13 @@ ghost use Rattle.journal_commit.specs.declared.decisions.ResponseTiming.TheVaria
 
 use crate::backlog::{CommitBacklog, Reservation, Reservations, ReserveFault};
 use crate::decisions::{ResponseTiming, Round, Usage, may_respond};
+use crate::failure::{FailureFlag, LogFailure};
 use crate::flusher::{FlushFault, Flusher};
 use crate::history::{CommitLedger, LogName, LogPosition, UnnamedHistory};
 use crate::space::Space;
 use journal_file::Log;
 use std::alloc::{AllocError, Global};
 use std::mem;
-use std::sync::atomic::{AtomicBool, Ordering};
 use std::sync::{Arc, Condvar, Mutex, Wait};
 use tokio::sync::{Notify, OwnedNotified};
 
@@ -21,9 +21,11 @@ use tokio::sync::{Notify, OwnedNotified};
 #[derive(Clone, Copy, Debug, PartialEq, Eq)]
 pub enum CommitFault {
     /// An append or a sync failed: no response leaves any more, and the program ends.
-    Failed,
+    Failed(LogFailure),
     /// Out of memory to wait.
     NoMemory,
+    /// It left before: what waited for its sync was asked once more.
+    AlreadySent,
 }
 
 impl From<AllocError> for CommitFault {
@@ -43,7 +45,7 @@ pub struct CommitLog<K: LogName, L: Log, S: Space> {
     synced: Condvar,
     /// Wakes waiting tasks at the same events.
     told: Arc<Notify>,
-    has_failed: AtomicBool,
+    failed: FailureFlag,
 }
 
 /// Begins to serve over a log, after what it has: returns the commit log, the flusher, and the log position at which
@@ -74,7 +76,7 @@ pub fn open<K: LogName, L: Log, S: Space>(
         more: Condvar::new(),
         synced: Condvar::new(),
         told: Arc::new(alloc, Notify::new(alloc)?)?,
-        has_failed: AtomicBool::new(false),
+        failed: FailureFlag::new(),
     };
     Ok((keeper, flusher, nothing))
 }
@@ -94,8 +96,8 @@ impl<K: LogName, L: Log, S: Space> CommitLog<K, L, S> {
     ) -> Result<Reservation, ReserveFault>
         ensures { IfOk result (λ place. place.text ≡ text) }
     {
-        if self.has_failed.load(Ordering::SeqCst) {
-            return Err(ReserveFault::Failed);
+        if let Some(failure) = self.failed.failure() {
+            return Err(ReserveFault::Failed(failure));
         }
         self.backlog.lock(rt).make_reservation(client, text)
     }
@@ -125,10 +127,7 @@ impl<K: LogName, L: Log, S: Space> CommitLog<K, L, S> {
                 self.more.notify_one();
                 Ok(stamp)
             }
-            None => {
-                self.fail(rt);
-                Err(CommitFault::Failed)
-            }
+            None => Err(CommitFault::Failed(self.fail(rt))),
         }
     }
 
@@ -146,8 +145,8 @@ impl<K: LogName, L: Log, S: Space> CommitLog<K, L, S> {
     ) -> Result<Reservations, ReserveFault>
         ensures { IfOk result (λ places. places.texts ≡ texts) }
     {
-        if self.has_failed.load(Ordering::SeqCst) {
-            return Err(ReserveFault::Failed);
+        if let Some(failure) = self.failed.failure() {
+            return Err(ReserveFault::Failed(failure));
         }
         self.backlog.lock(rt).make_reservations(client, texts)
     }
@@ -193,10 +192,7 @@ impl<K: LogName, L: Log, S: Space> CommitLog<K, L, S> {
                 self.more.notify_one();
                 Ok(stamp)
             }
-            _ => {
-                self.fail(rt);
-                Err(CommitFault::Failed)
-            }
+            _ => Err(CommitFault::Failed(self.fail(rt))),
         }
     }
 
@@ -231,9 +227,9 @@ impl<K: LogName, L: Log, S: Space> CommitLog<K, L, S> {
     pub fn may_respond(&self, stamp: &LogPosition<K, L>) -> ResponseTiming
         ensures { result ≡ tellings.Now → AreDurable L.may_be L.is_synced stamp.now }
     {
-        let has_failed = self.has_failed.load(Ordering::SeqCst);
+        let failure = self.failed.failure();
         let synced = stamp.synced_prefix(&self.ledger);
-        may_respond(has_failed, stamp.is_within(&synced))
+        may_respond(failure, stamp.is_within(&synced))
     }
 
     /// Blocks the thread until everything up to a log position is synced.
@@ -248,7 +244,7 @@ impl<K: LogName, L: Log, S: Space> CommitLog<K, L, S> {
         for _ in rt.forever() {
             match self.may_respond(stamp) {
                 ResponseTiming::Now => return Ok(()),
-                ResponseTiming::Never => return Err(CommitFault::Failed),
+                ResponseTiming::Never(failure) => return Err(CommitFault::Failed(failure)),
                 ResponseTiming::Later => {}
             }
             backlog = self.synced.wait(rt, backlog);
@@ -282,9 +278,9 @@ impl<K: LogName, L: Log, S: Space> CommitLog<K, L, S> {
         ensures capacity { MOST_TEXTS ≤ vec_capacity group.new }
     {
         let mut backlog = self.more.wait_while(rt, self.backlog.lock(rt), |backlog| {
-            backlog.round() == Round::Wait && !self.has_failed.load(Ordering::SeqCst)
+            backlog.round() == Round::Wait && self.failed.failure().is_none()
         });
-        if self.has_failed.load(Ordering::SeqCst) {
+        if self.failed.failure().is_some() {
             return Err(FlushFault::Failed);
         }
         match backlog.round() {
@@ -305,9 +301,10 @@ impl<K: LogName, L: Log, S: Space> CommitLog<K, L, S> {
     }
 
     /// From now on no response leaves any more.
-    pub fn fail<R: Wait>(&self, rt: &R) {
-        self.has_failed.store(true, Ordering::SeqCst);
+    pub fn fail<R: Wait>(&self, rt: &R) -> LogFailure {
+        let failure = self.failed.set();
         self.wake_waiting(rt);
         self.more.notify_one();
+        failure
     }
 }

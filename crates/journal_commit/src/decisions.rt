@@ -1,9 +1,11 @@
 //! When a response may leave, what the flusher does next, and whether a reservation may be made: decisions over plain
 //! values.
-ghost use Rattle.std.specs.Prelude.{◌≡◌, ◌+◌, ◌<◌, ◌≤◌, true, false, IsTrue, ◌↔◌};
+ghost use Rattle.std.specs.Prelude.{◌≡◌, ◌+◌, ◌<◌, ◌≤◌, true, false, IfSome, IsTrue, None, ◌↔◌};
 ghost use Rattle.journal_commit.specs.declared.decisions.Round.TheVariants as rounds;
 ghost use Rattle.journal_commit.specs.declared.decisions.ResponseTiming.TheVariants as tellings;
 ghost use Rattle.journal_commit.specs.Shares.{MayReserve};
+
+use crate::failure::LogFailure;
 
 /// The most payloads that wait to be written, together with those that have reservations.
 pub const MOST_TEXTS: usize = 16_384;
@@ -39,7 +41,7 @@ pub enum ResponseTiming {
     /// Once what it shows is synced.
     Later,
     /// Never: an append or a sync failed.
-    Never,
+    Never(LogFailure),
 }
 
 /// What the flusher does next.
@@ -54,15 +56,15 @@ pub enum Round {
 }
 
 /// Whether a response may leave, by whether an append or a sync has failed, and whether all that it shows is synced.
-pub fn may_respond(has_failed: bool, is_synced: bool) -> ResponseTiming
-    ensures never { has_failed ≡ true → result ≡ tellings.Never }
-    ensures now { has_failed ≡ false → is_synced ≡ true → result ≡ tellings.Now }
-    ensures later { has_failed ≡ false → is_synced ≡ false → result ≡ tellings.Later }
+pub fn may_respond(failure: Option<LogFailure>, is_synced: bool) -> ResponseTiming
+    ensures never { IfSome failure (λ failed. result ≡ tellings.Never failed) }
+    ensures now { failure ≡ None → is_synced ≡ true → result ≡ tellings.Now }
+    ensures later { failure ≡ None → is_synced ≡ false → result ≡ tellings.Later }
 {
-    match (has_failed, is_synced) {
-        (true, _) => ResponseTiming::Never,
-        (false, true) => ResponseTiming::Now,
-        (false, false) => ResponseTiming::Later,
+    match (failure, is_synced) {
+        (Some(failed), _) => ResponseTiming::Never(failed),
+        (None, true) => ResponseTiming::Now,
+        (None, false) => ResponseTiming::Later,
     }
 }
 

@@ -7,6 +7,7 @@ mod ballast;
 mod client_shares;
 mod commit_log;
 mod decisions;
+mod failure;
 mod flusher;
 mod history;
 pub mod laws;
@@ -21,6 +22,7 @@ pub use decisions::{
     LEAST_BYTES, MOST_BYTES, MOST_BYTES_OF_ONE, MOST_CLIENTS, MOST_TEXTS, MOST_TEXTS_OF_ONE,
     ResponseTiming, Round, Usage, may_reserve, may_respond, next_round,
 };
+pub use failure::LogFailure;
 pub use flusher::{FlushFault, Flusher};
 pub use history::{
     CommitLedger, LogName, LogPosition, SharedLogName, SyncedPrefix, UnnamedHistory,

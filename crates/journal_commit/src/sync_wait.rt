@@ -54,8 +54,12 @@ impl<T: Drop, K: LogName, L: Log, S: Space> Future for AwaitSync<T, K, L, S> {
 
     fn poll(&mut self, cx: &mut Context<'_>) -> Poll<Result<T, CommitFault>> {
         match self.keeper.may_respond(&self.stamp) {
-            ResponseTiming::Now => return Poll::Ready(self.reply.take().ok_or(CommitFault::Failed)),
-            ResponseTiming::Never => return Poll::Ready(Err(CommitFault::Failed)),
+            ResponseTiming::Now => {
+                return Poll::Ready(self.reply.take().ok_or(CommitFault::AlreadySent));
+            }
+            ResponseTiming::Never(failure) => {
+                return Poll::Ready(Err(CommitFault::Failed(failure)));
+            }
             ResponseTiming::Later => {}
         }
         match &mut self.heard {

@@ -94,7 +94,7 @@ refusal_behind (Unheld Crowded) = Some code.Busy
 refusal_behind (Unheld Stopping) = Some code.Busy
 refusal_behind (Unheld NoRoom) = Some code.NoRoom
 refusal_behind (Unheld NoMemory) = Some code.NoMemory
-refusal_behind (Unheld Failed) = None
+refusal_behind (Unheld (Failed failure)) = None
 refusal_behind (NotTold fault) = None
 
 -- these requests aren't carried out, and each has the same refusal

@@ -20,7 +20,7 @@ abbrev pub unreserved_by : ReserveFault → NoReservation
 unreserved_by fault.Crowded = Crowded
 unreserved_by fault.NoRoom = NoRoom
 unreserved_by fault.Stopping = Stopping
-unreserved_by fault.Failed = Failed
+unreserved_by (fault.Failed failure) = Failed failure
 unreserved_by fault.Untaken = NoMemory
 
 -- A full disk, a program that ends and being out of memory each have a refusal of their own. A request whose client's
@@ -30,7 +30,7 @@ refusal_for NoRoom = Ok code.NoRoom
 refusal_for Stopping = Ok code.Busy
 refusal_for NoMemory = Ok code.NoMemory
 refusal_for Crowded = Err unanswered.Crowded
-refusal_for Failed = Err (unanswered.NotTold untold.Failed)
+refusal_for (Failed failure) = Err (unanswered.NotTold (untold.Failed failure))
 
 -- the response has the refusal for this reason
 abbrev pub SaysUnheldFor : NoReservation → Response (Full (List ℕ)) → Type 0

@@ -283,11 +283,7 @@ impl<K: HallName, N: LogName, L: Log, S: Space> DurableHall<K, N, L, S> {
         let mut recording = RecordCommit::<T, R, N, L, S>::new(*rt, keeper, reserved);
         let mut room = self.hall.room(rt);
         let (answer, note) = room.carry_out(rt, heard, &call, &mut recording);
-        let is_published = note.is_some();
-        if let Some(note) = note {
-            self.hall.set_note(rt, note);
-        }
-        match recording.complete(&self.nothing, answer.status(), is_published) {
+        match recording.complete(&self.hall, note, &self.nothing, answer.status()) {
             Ok(stamp) => Ok(AnswerAtPosition { answer, stamp }),
             Err(fault) => Err(fault),
         }

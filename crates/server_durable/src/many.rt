@@ -75,7 +75,7 @@ fn refusal_behind(halt: Halt) -> Option<Code>
         Halt::Unheld(NoReservation::Stopping) => Some(Code::Busy),
         Halt::Unheld(NoReservation::NoRoom) => Some(Code::NoRoom),
         Halt::Unheld(NoReservation::NoMemory) => Some(Code::NoMemory),
-        Halt::Unheld(NoReservation::Failed) => None,
+        Halt::Unheld(NoReservation::Failed(_)) => None,
         Halt::NotTold(_) => None,
     }
 }
@@ -294,8 +294,8 @@ impl<K: HallName, N: LogName, L: Log, S: Space> DurableHall<K, N, L, S> {
         let note = self.hall.note(context.rt);
         let answers = desk.answer_all(requests, note.as_ref(), &mut OpenGate, context.evaluator)?;
         if !are_refused(&answers) {
-            self.keeper.fail(context.rt);
-            return Err(Halt::NotTold(CommitFault::Failed));
+            let failure = self.keeper.fail(context.rt);
+            return Err(Halt::NotTold(CommitFault::Failed(failure)));
         }
         let stamp = known.again();
         Ok(Replies { answers, stamp })

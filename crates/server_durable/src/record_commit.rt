@@ -1,11 +1,15 @@
 //! Commits a publication: its record is appended and synced before anybody sees it.
-ghost use Rattle.std.specs.Prelude.{◌≡◌, None, IfOk, IfNone, IfSome, option_map};
+ghost use Rattle.std.specs.Prelude.{◌≡◌, Err, None, IfOk, IfNone, IfSome, option_map};
+ghost use Rattle.journal_commit.specs.declared.commit_log.CommitFault.TheVariants as fault;
+ghost use Rattle.journal_commit.specs.declared.failure.LogFailure.{LogFailure};
 ghost use Rattle.server_durable.specs.Records.{IsAmong, IsShown, IsTitled, place_of};
 
 use crate::records::{CallReservation, append_or_release, give_back};
 use journal_commit::{CommitFault, CommitLog, LogName, LogPosition, Reservation, Space};
 use journal_file::Log;
 use mds_desk::PublishGuard;
+use mds_snapshot::Note;
+use server_state::{Hall, HallName};
 use std::marker::{Brand, PhantomData};
 use std::sync::{Arc, Wait};
 
@@ -111,21 +115,23 @@ impl<T: RecordPayload, R: Wait + Drop, N: LogName, L: Log, S: Space> RecordCommi
         }
     }
 
-    /// Completes the record once the request was answered with this status, and published or didn't. Returns the log
-    /// position of all that the reply shows.
+    /// Completes the record once the request was answered with this status. The note is the latest of the hall from
+    /// then on; where there is none, nothing was published. Returns the log position of all that the reply shows.
     ///
     /// # Errors
     ///
     /// The log failed. It also fails where a record was appended for a publication that didn't happen: the log is ahead
     /// then.
-    pub(crate) fn complete(
+    pub(crate) fn complete<K: HallName>(
         self,
+        hall: &Hall<K>,
+        note: Option<Note<K>>,
         nothing: &LogPosition<N, L>,
         status: u16,
-        is_published: bool,
     ) -> Result<LogPosition<N, L>, CommitFault>
         ensures shown { IsShown L.may_be L.is_synced T.text self.shown → IfOk result (IsAmong T.text) }
         ensures held { IfNone self.shown (IfSome self.held (λ _. status ≡ 200 → IfOk result (IsAmong T.text))) }
+        ensures ahead { IfSome self.shown (λ _. IfNone note ((failure : LogFailure) × (result ≡ Err (fault.Failed failure)))) }
     {
         let RecordCommit {
             rt,
@@ -133,6 +139,10 @@ impl<T: RecordPayload, R: Wait + Drop, N: LogName, L: Log, S: Space> RecordCommi
             held,
             shown,
         } = self;
+        let is_published = note.is_some();
+        if let Some(note) = note {
+            hall.set_note(&rt, note);
+        }
         let Some(shown) = shown else {
             return append_or_release(&rt, &keeper, nothing, remaining_reservation(held), status);
         };
@@ -141,7 +151,6 @@ impl<T: RecordPayload, R: Wait + Drop, N: LogName, L: Log, S: Space> RecordCommi
         if is_published {
             return shown;
         }
-        keeper.fail(&rt);
-        Err(CommitFault::Failed)
+        Err(CommitFault::Failed(keeper.fail(&rt)))
     }
 }

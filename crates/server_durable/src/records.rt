@@ -10,7 +10,7 @@ ghost use Rattle.server_durable.specs.Refusals.{refusal_for};
 
 use crate::pending::NoResponse;
 use journal_commit::{
-    CommitFault, CommitLog, LogName, LogPosition, Reservation, ReserveFault, Space,
+    CommitFault, CommitLog, LogFailure, LogName, LogPosition, Reservation, ReserveFault, Space,
 };
 use journal_entry::{EntryClient, JournalEntry, entry_text};
 use journal_file::Log;
@@ -42,7 +42,7 @@ pub(crate) enum NoReservation {
     /// The log takes no more records, since the program ends.
     Stopping,
     /// An append or a sync failed: no more responses are sent.
-    Failed,
+    Failed(LogFailure),
     /// Out of memory, or no log takes the record.
     NoMemory,
 }
@@ -58,7 +58,7 @@ impl From<ReserveFault> for NoReservation {
             ReserveFault::Crowded => NoReservation::Crowded,
             ReserveFault::NoRoom => NoReservation::NoRoom,
             ReserveFault::Stopping => NoReservation::Stopping,
-            ReserveFault::Failed => NoReservation::Failed,
+            ReserveFault::Failed(failure) => NoReservation::Failed(failure),
             ReserveFault::Untaken => NoReservation::NoMemory,
         }
     }
@@ -83,7 +83,7 @@ pub(crate) fn refusal_for(why: NoReservation) -> Result<Code, NoResponse>
         NoReservation::Stopping => Ok(Code::Busy),
         NoReservation::NoMemory => Ok(Code::NoMemory),
         NoReservation::Crowded => Err(NoResponse::Crowded),
-        NoReservation::Failed => Err(NoResponse::NotTold(CommitFault::Failed)),
+        NoReservation::Failed(failure) => Err(NoResponse::NotTold(CommitFault::Failed(failure))),
     }
 }
 

@@ -176,7 +176,7 @@ fn replies_leave_once_synced(rt: HostRuntime) -> Result<(), Fail> {
 #[test]
 fn nothing_is_answered_after_a_failed_sync(rt: HostRuntime) -> Result<(), Fail> {
     let (log, told) = serve_over_journal(&rt, 4)?;
-    assert!(rt; told.reply == Err(CommitFault::Failed) && told.published == None);
+    assert!(rt; matches!(told.reply, Err(CommitFault::Failed(_))) && told.published == None);
     assert!(rt; log.err() == Some(FlushFault::NotSynced));
     Ok(())
 }
@@ -184,7 +184,7 @@ fn nothing_is_answered_after_a_failed_sync(rt: HostRuntime) -> Result<(), Fail> 
 #[test]
 fn nothing_is_answered_after_a_failed_append(rt: HostRuntime) -> Result<(), Fail> {
     let (log, told) = serve_over_journal(&rt, 3)?;
-    assert!(rt; told.reply == Err(CommitFault::Failed) && told.published == None);
+    assert!(rt; matches!(told.reply, Err(CommitFault::Failed(_))) && told.published == None);
     assert!(rt; log.err() == Some(FlushFault::NotAppended(AppendFault::Unknown)));
     Ok(())
 }
