@@ -1,7 +1,7 @@
 # demo     the main job on real input: a policy is published, a vehicle reported, compliance asked for
 # test     all tests, and the programs on scripts, messages, kills and short loads, before any proof: it proves nothing
 # prove    the gate: every proof, the edits that must fail, then scripts, messages, kills, journals, loads and stress on what is built
-# edits    further edits that must fail, those of edits/: part of a release, not of the gate (CRATE=mds_text: those of one crate)
+# edits    further edits that must fail, those of edits/CRATE/: part of a release, not of the gate (CRATE=mds_text: those of one crate)
 # build    proves mds_replay with all that it stands on, and builds it
 # server   proves ruffletuff with all that it stands on, and builds it
 # plain    the same of mds_serve, which keeps nothing

@@ -1,12 +1,12 @@
 #!/usr/bin/env python3
 """The mutation tests: that the prover refuses each edit, tried on the functions that it changes, over the libraries that are built.
 
-    edits.py [--crate NAME].. [--folder edits|must-fail] [--anew] [--jobs N]
+    edits.py [--crate NAME].. [--folder edits|gate|must-fail] [--anew] [--jobs N]
 
 tests/edit_files.py has what an edit is. The functions are checked as they stand first (`rattle check --only`, with all that they call): an
 edit counts where they are proved then, and one of them isn't with the edit. The libraries below a crate are those of crates/*/out/rlib, as
 `make prove` leaves them; the kit is the one that `rt` belongs to. What was proved of a crate as it stands is kept in crates/NAME/out/edits,
-for the next run that isn't told --anew. A check takes 1 to 3 GB.
+for the next run that isn't told --anew. A check takes 1 to 3 GB. The gate tries those of `gate` so, and `rt ci` in it those of `must-fail`.
 
 Prints a line for each edit; last 'N passed, M failed', by edits, and ends with 1 where one failed.
 """
@@ -23,7 +23,7 @@ from pathlib import Path
 
 from edit_files import PARTS, ROOT, Unusable, read_edit
 
-FOLDERS = {"edits": "edits/{}", "must-fail": "crates/{}/must-fail"}
+FOLDERS = {"edits": "edits/{}", "gate": "edits/gate/{}", "must-fail": "crates/{}/must-fail"}
 # How the prover tells what it found of a function, and that it knows none of that name.
 VERDICT = re.compile(r"^fn (\S+): (.*)$", re.M)
 UNKNOWN = re.compile(r"^rattle: error: `\w+` has no function `(.*?)`", re.M)

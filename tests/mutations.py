@@ -1,5 +1,6 @@
 #!/usr/bin/env python3
-"""The mutation tests, as texts: that each edit in crates/CRATE/must-fail/ and edits/CRATE/ can be made, and what it changes is a function.
+"""The mutation tests, as texts: that each edit in crates/CRATE/must-fail/, edits/gate/CRATE/ and edits/CRATE/ can be made, and what it
+changes is a function.
 
     python3 tests/mutations.py
 
@@ -13,15 +14,15 @@ from edit_files import ROOT, Unusable, read_edit
 
 def main():
     gate = [(it, it.parent.parent.name) for it in ROOT.glob("crates/*/must-fail/*.edit")]
-    release = [(it, it.parent.name) for it in ROOT.glob("edits/*/*.edit")]
+    others = [(it, it.parent.name) for pattern in ("edits/gate/*/*.edit", "edits/*/*.edit") for it in ROOT.glob(pattern)]
     failed = 0
-    for file, crate in sorted(gate + release):
+    for file, crate in sorted(gate + others):
         try:
             read_edit(file, crate)
         except Unusable as fault:
             failed += 1
             print(f"{file.relative_to(ROOT)}: {fault}")
-    print(f"{len(gate) + len(release) - failed} passed, {failed} failed")
+    print(f"{len(gate) + len(others) - failed} passed, {failed} failed")
     return 1 if failed else 0
 
 
