@@ -158,7 +158,7 @@ fn evaluates_by_the_given_evaluator(rt: HostRuntime) -> Result<(), Fail> {
 struct RepeatedQuestion;
 
 impl DeskTest for RepeatedQuestion {
-    fn run_test<K: OpeningName, R: Wait + Abort>(
+    fn run_test<K: OpeningName, R: TestRuntime>(
         &self,
         rt: &R,
         _alloc: Global,
