@@ -3,7 +3,6 @@
 #![tactic(auto)]
 
 ghost use Rattle.std.specs.Prelude.{◌≡◌};
-ghost use Rattle.mds_bitmaps.specs.declared.bitmap_index.TheConstants.{MOST_BITMAPS};
 ghost use Rattle.mds_catalog.specs.declared.catalogue.TheConstants.{MOST_POLICIES, MOST_GEOGRAPHIES, MOST_PUBLICATIONS};
 ghost use Rattle.mds_drafts.specs.declared.drafts.TheConstants.{MOST_DRAFTS};
 ghost use Rattle.mds_geography.specs.Reading.{most_positions};
@@ -61,9 +60,4 @@ pub fn limits_of_requests()
 pub fn limits_of_fleets()
     ensures vehicles { MOST_VEHICLES ≡ 200000 }
     ensures devices { MOST_DEVICES ≡ 100 }
-{}
-
-/// At most 4,194,304 bitmaps of an operator's vehicles are cached.
-pub fn limits_of_bitmaps()
-    ensures bitmaps { MOST_BITMAPS ≡ 4194304 }
 {}
