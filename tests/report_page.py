@@ -18,11 +18,11 @@ def minute_of(local):
 
 def marks_of(rows, every):
     """The marks of a rule's day, by its rows: of which class, where each begins, and how long it is, by the clock. One goes on to the next
-    row where that is as long behind as rows are, and the clock wasn't set back."""
+    row where that is as long behind as rows are, and the clock went as far: it wasn't set in between."""
     marks, before = [], None
     for row in rows:
         drawn, at, begin = DRAWN.get(row[9], "closed"), datetime.fromisoformat(row[0]), minute_of(row[1])
-        if not before or before[0] != drawn or at - before[1] != timedelta(minutes=every) or begin < before[2]:
+        if not before or before[0] != drawn or at - before[1] != timedelta(minutes=every) or begin != before[2] + every:
             marks.append([drawn, begin, 0])
         marks[-1][2] = max(1, min(begin + every, 1440) - marks[-1][1])
         before = drawn, at, begin
@@ -30,14 +30,13 @@ def marks_of(rows, every):
 
 
 def minutes_are_told(day, rows, marks, every):
-    """Each minute of a day that a sample stands for is in a mark of its class, and a mark has no other one, but for the hour that the clock
+    """Each minute of a day that a sample stands for is in a mark of its class, and a mark has no other one: none of the hour that the clock
     passes over."""
-    passed = range(120, 180) if day == "2026-03-08" else ()
     for drawn in ("violated", "kept", "closed"):
         begins = [minute_of(row[1]) for row in rows if DRAWN.get(row[9], "closed") == drawn]
         of_rows = {it for begin in begins for it in range(begin, min(begin + every, 1440))}
         of_marks = {it for kind, begin, width in marks if kind == drawn for it in range(begin, begin + width)}
-        if of_rows - of_marks or of_marks - of_rows - set(passed):
+        if of_rows != of_marks:
             yield f"on {day} {drawn} are {sorted(of_rows ^ of_marks)}"
 
 

@@ -1,5 +1,6 @@
 //! A rule's day as a time line: a drawing of 1,440 units, one for each minute of the local day, by the clock.
-ghost use Rattle.std.specs.Prelude.{◌≡◌, ◌==◌, ◌<◌, ◌≤◌, ◌-◌, ◌∷◌, ◌++◌, drop, length, take, IfOk, OnOk, string_bytes};
+ghost use Rattle.std.specs.Prelude.{◌≡◌, ◌==◌, ◌<◌, ◌≤◌, ◌+◌, ◌-◌, ◌/◌, ◌∷◌, ◌++◌, drop, length, take, IfOk, OnOk};
+ghost use Rattle.std.specs.Prelude.{string_bytes};
 ghost use Rattle.cli_report.specs.Days.{grouped_by};
 ghost use Rattle.cli_report.specs.Lines.{are_alike, begin_text, goes_on, is_same, mark_begin, mark_end, mark_of};
 ghost use Rattle.cli_report.specs.Lines.{mark_text, mark_width, marks, minute_at, place_text, shape, shape_text};
@@ -59,13 +60,20 @@ fn is_next(at: Moment, next: Moment, every: u64) -> bool
     next.get().unsigned_abs().saturating_sub(begin) == every
 }
 
+/// Whether the clock went so many milliseconds from a moment to another one: it wasn't set in between.
+fn is_shown_next(zone: &Zone, at: Moment, next: Moment, every: u64) -> bool
+    ensures { result ≡ (minute_at zone.now next == minute_at zone.now at + every / 60000) }
+{
+    minute_at(zone, next) == minute_at(zone, at) + every / MINUTE
+}
+
 /// Whether one mark goes on from a sample to the next one.
 fn goes_on(zone: &Zone, span: &ReportSpan, one: &DaySample, other: &DaySample) -> bool
     ensures { result ≡ goes_on zone.now span.now.every one.now other.now }
 {
     are_alike(one, other)
         && is_next(one.at, other.at, span.every)
-        && minute_at(zone, one.at) <= minute_at(zone, other.at)
+        && is_shown_next(zone, one.at, other.at, span.every)
 }
 
 /// How many samples, from the first one on, are of one mark.

@@ -242,7 +242,8 @@ fn marks_where_clocks_are_set_back(rt: HostRuntime) -> Result<(), AllocError> {
     Ok(())
 }
 
-// 01:30, and half an hour later 03:00, as clocks are set forward: one mark. Where an hour isn't sampled, there is none.
+// 01:30, and half an hour later 03:00, as clocks are set forward: from 02:00 to 03:00 there is no mark, since there was no
+// such hour. Where an hour isn't sampled, there is none either.
 #[test]
 fn marks_where_clocks_are_set_forward(rt: HostRuntime) -> Result<(), AllocError> {
     let alloc = rt.alloc();
@@ -251,7 +252,8 @@ fn marks_where_clocks_are_set_forward(rt: HostRuntime) -> Result<(), AllocError>
     push_sample(&mut samples, SPRING, 4, 0, Status::Violated, 5)?;
     push_sample(&mut samples, SPRING, 7, 0, Status::Violated, 5)?;
     let page = section(alloc, half_hours(SPRING, 3, 7), &samples)?;
-    let marks = "<rect class=\"violated\" y=\"0\" height=\"12\" x=\"90\" width=\"120\"/>\
+    let marks = "<rect class=\"violated\" y=\"0\" height=\"12\" x=\"90\" width=\"30\"/>\
+        <rect class=\"violated\" y=\"0\" height=\"12\" x=\"180\" width=\"30\"/>\
         <rect class=\"violated\" y=\"0\" height=\"12\" x=\"270\" width=\"30\"/></svg></td><td>3 of 3</td>";
     assert!(rt; has_part(&page, marks));
     Ok(())
