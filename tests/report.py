@@ -34,7 +34,7 @@ from datetime import datetime, timezone
 import records
 from journals import REPLAY
 from kept import City, Tried, ended, replayed, split
-from report_page import DAY_LINE, MARK, OPEN, RULE, Page, bounds_of, marks_of, minutes_are_told, page_faults, since_of, worst_of
+from report_page import DAY_LINE, MARK, OPEN, RULE, Page, bounds_of, counts_of, marks_of, minutes_are_told, page_faults, since_of, worst_of
 from wire import Closed, identifier
 
 AUTHOR, ALFA, BRAVO = "city", "alfa", "bravo"
@@ -463,16 +463,18 @@ def is_the_same_again(made):
 
 
 def marks_follow_the_clock(made):
-    """Each mark of a day in report.html begins and ends where the clock says, also behind a change of the clocks."""
+    """Each mark of a day in report.html begins and ends where the clock says, also behind a change of the clocks; and behind a day's line
+    stands in how many samples the rule was violated, of those in which it was open."""
     days = collections.defaultdict(list)
     for row in rows_of(made.whole["verdicts.csv"], COLUMNS):
         days[row[2], row[4], row[6], row[1][:10]].append(row)
     wanted = collections.Counter()
     for (*_, day), rows in days.items():
-        wanted[day, marks := marks_of(rows, EVERY)] += 1
+        judged = [it[9] for it in rows if it[9] in OPEN]
+        wanted[day, marks := marks_of(rows, EVERY), f"{judged.count('violated')} of {len(judged)}"] += 1
         yield from minutes_are_told(day, rows, marks, EVERY)
     lines = DAY_LINE.findall(made.whole["report.html"].decode())
-    found = collections.Counter((day, tuple((it, int(x), int(width)) for it, x, width in MARK.findall(text))) for day, text in lines)
+    found = collections.Counter((day, tuple((it, int(x), int(w)) for it, x, w in MARK.findall(text)), told) for day, text, told in lines)
     for line_ in found - wanted:
         yield f"a day is drawn that isn't in verdicts.csv: {line_}"
     for line_ in wanted - found:
@@ -491,7 +493,7 @@ def rules_are_told(made):
         for (whose, policy, number), rows in sorted(rules.items()):
             if whose == IDS[token]:
                 rule, violated = made.documents[policy]["rules"][number], [int(row[10]) for row in rows if row[9] == "violated"]
-                told = f"Violated in {len(violated)} of {len(rows)} samples.{''.join(worst_of(rule, violated))}"
+                told = f"{counts_of(rows)}{''.join(worst_of(rule, violated))}"
                 wanted.append((len(violated), (rows[0][7], policy, str(number), bounds_of(rule), told, since_of(rows, *ends))))
         wanted = [it for _, it in sorted(wanted, key=lambda it: -it[0])]
         yield from differing(f"{token} on the page", RULE.findall(section), wanted)

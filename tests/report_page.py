@@ -6,7 +6,7 @@ import re
 from datetime import datetime, timedelta
 
 OPEN = ("ok", "violated")
-DAY_LINE = re.compile(r"<tr><th>(\d{4}-\d\d-\d\d)</th><td><svg[^>]*>(.*?)</svg></td>", re.S)
+DAY_LINE = re.compile(r"<tr><th>(\d{4}-\d\d-\d\d)</th><td><svg[^>]*>(.*?)</svg></td><td>(\d+ of \d+)</td></tr>\n", re.S)
 MARK = re.compile(r'<rect class="(\w+)"[^>]* x="(\d+)" width="(\d+)"/>')
 DRAWN = {"violated": "violated", "ok": "kept"}
 
@@ -48,6 +48,14 @@ RULE = re.compile(
 
 def vehicles(number):
     return "1 vehicle" if number == 1 else f"{number} vehicles"
+
+
+def counts_of(rows):
+    """In how many of a rule's samples it was violated: of those in which it was open, and how many there are, where these are more."""
+    judged = sum(row[9] in OPEN for row in rows)
+    which = " in which it was open" if judged else " in which it was open and evaluated"
+    behind = f"{which} ({len(rows)} in all)" if judged < len(rows) else ""
+    return f"Violated in {sum(row[9] == 'violated' for row in rows)} of {judged} samples{behind}."
 
 
 def worst_of(rule, measures):

@@ -1,4 +1,5 @@
 pub mod Cells
+pub mod Counts
 pub mod Csv
 pub mod Days
 pub mod Excess

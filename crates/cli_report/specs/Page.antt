@@ -10,7 +10,8 @@ use Rattle.mds_policy.specs.declared.rule.Kind.TheVariants.{Count, Time, Other}
 use Rattle.mds_policy.specs.declared.rule.TimeUnit.TheVariants.{Seconds, Minutes, Hours, Days}
 use Rattle.journal_samples.specs.declared.sample.RuleSample.{RuleSample}
 use Rattle.cli_report.specs.Cells.{text, identifier, number, local, day}
-use Rattle.cli_report.specs.Days.{IsOrdered, day_sample, grouped, violations}
+use Rattle.cli_report.specs.Counts.{all_behind, counts_of}
+use Rattle.cli_report.specs.Days.{IsOrdered, day_sample, grouped, open_ones, violations}
 use Rattle.cli_report.specs.Excess.{worst_text}
 use Rattle.cli_report.specs.Lines.{marks}
 use Rattle.cli_report.specs.Names.{Label, label_of}
@@ -18,6 +19,7 @@ use Rattle.cli_report.specs.Pieces.{IsWritten, Piece, markup, value}
 use Rattle.cli_report.specs.Ranks.{AreRanked, samples_of}
 use Rattle.cli_report.specs.Rows.{Operator}
 use Rattle.cli_report.specs.Since.{is_violated_at, may_be_before, violated_since}
+use Rattle.cli_report.specs.declared.counts.SampleCounts.{SampleCounts}
 use Rattle.cli_report.specs.declared.days.DaySample.{DaySample}
 use Rattle.cli_report.specs.declared.page.TheConstants.{HEAD, LEGEND}
 use Rattle.cli_report.specs.declared.ranking.RuleSpan.{RuleSpan}
@@ -107,14 +109,15 @@ title_pieces label s =
     ∷ markup (codes "</small>, rule ") ∷ value (number s.number) ∷ []
 
 -- its bounds, how often it was violated, and by how much
-abbrev pub counts_pieces : (limits worst : List ℕ) (violated count : ℕ) → List Piece
-counts_pieces limits worst violated count =
-    markup limits ∷ markup (codes ". Violated in ") ∷ value (number violated) ∷ markup (codes " of ") ∷ value (number count)
-    ∷ markup (codes " samples.") ∷ markup worst ∷ markup (codes "</p>\n") ∷ []
+abbrev pub counts_pieces : (limits worst all : List ℕ) → SampleCounts → List Piece
+counts_pieces limits worst all counts =
+    markup limits ∷ markup (codes ". Violated in ") ∷ value (number counts.violated) ∷ markup (codes " of ")
+    ∷ value (number counts.judged) ∷ markup (codes " samples") ∷ markup all ∷ markup (codes ".") ∷ markup worst
+    ∷ markup (codes "</p>\n") ∷ []
 
 abbrev pub judgment_pieces : Option Rule → List DaySample → List Piece
 judgment_pieces rule samples =
-    counts_pieces (limits_behind rule) (worst_behind rule (violations samples)) (length (violations samples)) (length samples)
+    counts_pieces (limits_behind rule) (worst_behind rule (violations samples)) (all_behind (counts_of samples)) (counts_of samples)
 
 -- where it is violated at the report's last moment, since when it is
 abbrev pub before_text : Bool → List ℕ
@@ -130,19 +133,20 @@ abbrev pub end_pieces : ReportSpan → List DaySample → List Piece
 end_pieces span samples =
     if is_violated_at span.last samples then since_pieces (violated_since samples) (may_be_before span.first samples) else []
 
--- a line for a day: the day, its drawing with marks at 6, 12 and 18 o'clock, and how many of its samples are violated
+-- a line for a day: the day, its drawing with marks at 6, 12 and 18 o'clock, and in how many of its samples in which the
+-- rule was open it was violated
 abbrev pub line_pieces : ℕ → List ℕ → ℕ → ℕ → List Piece
-line_pieces t drawn violated count =
+line_pieces t drawn violated judged =
     markup (codes "<tr><th>") ∷ value (day t)
     ∷ markup (codes "</th><td><svg viewBox=\"0 0 1440 12\" preserveAspectRatio=\"none\">"
     ++ codes "<path d=\"M360 0v12M720 0v12M1080 0v12\"/>")
-    ∷ markup drawn ∷ markup (codes "</svg></td><td>") ∷ value (number violated) ∷ markup (codes " of ") ∷ value (number count)
+    ∷ markup drawn ∷ markup (codes "</svg></td><td>") ∷ value (number violated) ∷ markup (codes " of ") ∷ value (number judged)
     ∷ markup (codes "</td></tr>\n") ∷ []
 
 abbrev pub day_pieces : ZoneKind → ℕ → List DaySample → List Piece
 day_pieces zone every [] = []
 day_pieces zone every (s ∷ samples) =
-    line_pieces s.at (marks zone every (s ∷ samples)) (length (violations (s ∷ samples))) (length (s ∷ samples))
+    line_pieces s.at (marks zone every (s ∷ samples)) (length (violations (s ∷ samples))) (length (open_ones (s ∷ samples)))
 
 abbrev pub days_pieces : ZoneKind → ℕ → List DaySample → List Piece
 days_pieces zone every samples =

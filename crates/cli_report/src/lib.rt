@@ -3,6 +3,7 @@
 #![tactic(auto)]
 
 mod cell;
+mod counts;
 mod csv;
 mod days;
 mod escape;

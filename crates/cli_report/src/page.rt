@@ -55,7 +55,8 @@ const LEGEND: &str = "</table>
 <p>A line is a local day, from midnight to midnight, with marks at 6, 12 and 18 o'clock. \
 A black bar as high as the line: the rule was violated. A gray bar, a third as high: it was kept. \
 A thin line: it was closed, or isn't evaluated. Nothing: it wasn't in force, nothing was sampled, \
-or there was no such hour, as clocks were set forward over it.</p>
+or there was no such hour, as clocks were set forward over it. Behind a line stands in how many of the day's samples, of those \
+in which the rule was open, it was violated.</p>
 <p>A sample is what the operator would have been told of its own fleet at that moment; of what was between two samples \
 nothing is said. Where a rule was violated in the last sample, it is said since when; where that isn't said, it wasn't.</p>
 ";

@@ -1,6 +1,7 @@
 //! A rule on the page: its titles, its bounds, how often, by how much and since when it is violated, and its days.
 ghost use Rattle.std.specs.Prelude.{◌≡◌, ◌<◌, ◌++◌, IfOk, OnOk, length, map, option_map, string_bytes};
 ghost use Rattle.mds_policy.specs.Policy.{rule_document};
+ghost use Rattle.cli_report.specs.Counts.{all_behind, counts_of};
 ghost use Rattle.cli_report.specs.Days.{grouped, violations};
 ghost use Rattle.cli_report.specs.Names.{label_view, tree_policy};
 ghost use Rattle.cli_report.specs.Page.{before_text, counts_pieces, day_pieces, days_pieces, end_pieces};
@@ -11,6 +12,7 @@ ghost use Rattle.cli_report.specs.Ranks.{samples_of};
 ghost use Rattle.cli_report.specs.Texts.{Appends, Spells};
 
 use crate::cell::CellValue;
+use crate::counts::{SampleCounts, all_behind, counts_of};
 use crate::days::{DaySample, count_first, first_of, front_of, rest_of, violations};
 use crate::excess::worst_text;
 use crate::names::{PolicyTree, RuleLabel, label_of};
@@ -80,25 +82,28 @@ fn worst_of(
     }
 }
 
-/// Appends a rule's bounds in words, that so many of so many samples are violated, and by how much.
+/// Appends a rule's bounds in words, how many of its samples are violated, of those in which it was open and of all, and by
+/// how much.
 fn push_counts<'x>(
     out: &mut Vec<u8>,
     zone: &Zone,
     limits: &'x [u8],
     worst: &'x str,
-    violated: usize,
-    count: usize,
+    all: &'x str,
+    counts: &SampleCounts,
 ) -> Result<(), AllocError>
-    ensures { OnOk result (Appends (IsWritten zone.now (counts_pieces limits.now worst.now violated count))
+    ensures { OnOk result (Appends (IsWritten zone.now (counts_pieces limits.now worst.now all.now counts.now))
         out.old.items out.new.items) }
 {
     let pieces = [
         PagePiece::Drawn(limits),
         PagePiece::Markup(". Violated in "),
-        PagePiece::Value(CellValue::Number(violated as u64)),
+        PagePiece::Value(CellValue::Number(counts.violated)),
         PagePiece::Markup(" of "),
-        PagePiece::Value(CellValue::Number(count as u64)),
-        PagePiece::Markup(" samples."),
+        PagePiece::Value(CellValue::Number(counts.judged)),
+        PagePiece::Markup(" samples"),
+        PagePiece::Markup(all),
+        PagePiece::Markup("."),
         PagePiece::Markup(worst),
         PagePiece::Markup("</p>\n"),
     ];
@@ -119,13 +124,15 @@ fn push_judgment(
     let violated = violations(alloc, samples)?;
     let limits = limits_text(alloc, rule)?;
     let worst = worst_of(alloc, rule, &violated)?;
+    let counts = counts_of(alloc, samples)?;
+    let all = all_behind(alloc, &counts)?;
     push_counts(
         out,
         zone,
         &limits,
         worst.as_str(),
-        violated.len(),
-        samples.len(),
+        all.as_str(),
+        &counts,
     )
 }
 

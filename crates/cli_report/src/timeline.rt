@@ -10,7 +10,7 @@ ghost use Rattle.cli_report.specs.Pieces.{IsWritten};
 ghost use Rattle.cli_report.specs.Texts.{Appends};
 
 use crate::cell::CellValue;
-use crate::days::{DaySample, first_of, front_of, last_of, rest_of, violations};
+use crate::days::{DaySample, first_of, front_of, last_of, open_ones, rest_of, violations};
 use crate::pieces::{PagePiece, push_bytes, push_pieces};
 use crate::reported::ReportSpan;
 use cli_calendar::clock_at;
@@ -211,16 +211,17 @@ fn marks_of(
     Ok(out)
 }
 
-/// Appends the row of the day of a sample, with these marks, and so many violated ones of so many samples.
+/// Appends the row of the day of a sample, with these marks, and so many violated ones of so many samples in which the rule
+/// was open.
 fn push_line(
     out: &mut Vec<u8>,
     zone: &Zone,
     first: &DaySample,
     marks: &[u8],
     violated: usize,
-    count: usize,
+    judged: usize,
 ) -> Result<(), AllocError>
-    ensures { OnOk result (Appends (IsWritten zone.now (line_pieces first.now.at marks.now violated count))
+    ensures { OnOk result (Appends (IsWritten zone.now (line_pieces first.now.at marks.now violated judged))
         out.old.items out.new.items) }
 {
     let pieces = [
@@ -231,13 +232,13 @@ fn push_line(
         PagePiece::Markup("</svg></td><td>"),
         PagePiece::Value(CellValue::Number(violated as u64)),
         PagePiece::Markup(" of "),
-        PagePiece::Value(CellValue::Number(count as u64)),
+        PagePiece::Value(CellValue::Number(judged as u64)),
         PagePiece::Markup("</td></tr>\n"),
     ];
     push_pieces(out, zone, &pieces)
 }
 
-/// Appends a row of a table: a day, its time line, and how many samples are of a violated rule.
+/// Appends a row of a table: a day, its time line, and in how many of its samples in which the rule was open it was violated.
 ///
 /// # Errors
 ///
@@ -256,5 +257,6 @@ pub(crate) fn push_day_line(
     let first = first_of(samples);
     let marks = marks_of(alloc, zone, span, samples)?;
     let violated = violations(alloc, samples)?.len();
-    push_line(out, zone, first, &marks, violated, samples.len())
+    let judged = open_ones(alloc, samples)?.len();
+    push_line(out, zone, first, &marks, violated, judged)
 }

@@ -208,7 +208,7 @@ fn since_when_a_rule_is_violated(rt: HostRuntime) -> Result<(), AllocError> {
     push_sample(&mut samples, AUTUMN, 3, 1, Status::Violated, 5)?;
     let page = section(alloc, half_hours(AUTUMN, 0, 3), &samples)?;
     let parked =
-        "rule 1: fewer than 24 hours in one state. Violated in 2 of 4 samples. At worst 5 vehicles at once.</p>\n\
+        "rule 1: fewer than 24 hours in one state. Violated in 2 of 2 samples in which it was open (4 in all). At worst 5 vehicles at once.</p>\n\
         <p>Violated at the report's end, and whenever the rule was open since \
         2026-11-01T00:30:00-04:00 or before.</p>\n";
     assert!(rt; has_part(&page, parked));
@@ -237,7 +237,7 @@ fn marks_where_clocks_are_set_back(rt: HostRuntime) -> Result<(), AllocError> {
         <rect class=\"violated\" y=\"0\" height=\"12\" x=\"90\" width=\"30\"/>\
         <rect class=\"violated\" y=\"0\" height=\"12\" x=\"60\" width=\"30\"/>\
         <rect class=\"kept\" y=\"4\" height=\"4\" x=\"90\" width=\"30\"/>\
-        <rect class=\"closed\" y=\"5.5\" height=\"1\" x=\"1410\" width=\"30\"/></svg></td><td>2 of 5</td></tr>\n";
+        <rect class=\"closed\" y=\"5.5\" height=\"1\" x=\"1410\" width=\"30\"/></svg></td><td>2 of 4</td></tr>\n";
     assert!(rt; has_part(&page, line));
     Ok(())
 }
