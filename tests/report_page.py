@@ -63,13 +63,14 @@ def worst_of(rule, measures):
     if measures and rule["rule_type"] == "time":
         yield f" At worst {vehicles(max(measures))} at once."
     if measures and rule["rule_type"] == "count":
+        bounds, (low, high) = limits_of(rule), (min(measures), max(measures))
         # The most and the least that are allowed.
         most = rule.get("maximum", 10**9) - (not rule.get("inclusive_maximum", True))
         least = rule.get("minimum", 0) + ("minimum" in rule and not rule.get("inclusive_minimum", True))
-        if max(measures) > most:
-            yield f" At worst {vehicles(max(measures))}: {max(measures) - most} too many."
-        if min(measures) < least:
-            yield f" At worst {vehicles(min(measures))}: {least - min(measures)} too few."
+        if high > most:
+            yield f" At worst {high} of {bounds[-1]}: {high - most} too many."
+        if low < least:
+            yield f" At worst {low} of {bounds[0]}: {least - low} too few."
 
 
 def since_of(rows, first, last):
@@ -81,13 +82,17 @@ def since_of(rows, first, last):
     return f"Violated at the report's end, and whenever the rule was open since {run[-1][1]}{before}."
 
 
-def bounds_of(rule):
-    """A rule's bounds in words."""
+def limits_of(rule):
+    """A rule's minimum and maximum in words, those that it has."""
     least, most = ("at least", "more than"), ("at most", "fewer than")
     words = [f"{least[not rule.get('inclusive_minimum', True)]} {rule['minimum']}"] if "minimum" in rule else []
-    words += [f"{most[not rule.get('inclusive_maximum', True)]} {rule['maximum']}"] if "maximum" in rule else []
+    return words + ([f"{most[not rule.get('inclusive_maximum', True)]} {rule['maximum']}"] if "maximum" in rule else [])
+
+
+def bounds_of(rule):
+    """A rule's bounds in words."""
     unit = "vehicles" if rule["rule_type"] == "count" else f"{rule['rule_units']} in one state"
-    return f"{' and '.join(words) or 'any number of'} {unit}"
+    return f"{' and '.join(limits_of(rule)) or 'any number of'} {unit}"
 
 
 class Page(html.parser.HTMLParser):

@@ -1,3 +1,4 @@
+pub mod Bounds
 pub mod Cells
 pub mod Counts
 pub mod Csv

@@ -187,8 +187,8 @@ fn by_how_much_a_count_is_off(rt: HostRuntime) -> Result<(), AllocError> {
     push_sample(&mut samples, AUTUMN, 3, 0, Status::Violated, 6)?;
     let page = section(alloc, half_hours(AUTUMN, 0, 3), &samples)?;
     let judged =
-        "rule 0: at least 2 and at most 4 vehicles. Violated in 3 of 4 samples. At worst 7 vehicles: 3 too many. \
-        At worst 1 vehicle: 1 too few.</p>\n<p>Violated at the report's end, and whenever the rule was open since \
+        "rule 0: at least 2 and at most 4 vehicles. Violated in 3 of 4 samples. At worst 7 of at most 4: 3 too many. \
+        At worst 1 of at least 2: 1 too few.</p>\n<p>Violated at the report's end, and whenever the rule was open since \
         2026-11-01T01:30:00-04:00.</p>\n<table>";
     assert!(rt; has_part(&page, judged));
     Ok(())
@@ -212,7 +212,7 @@ fn since_when_a_rule_is_violated(rt: HostRuntime) -> Result<(), AllocError> {
         <p>Violated at the report's end, and whenever the rule was open since \
         2026-11-01T00:30:00-04:00 or before.</p>\n";
     assert!(rt; has_part(&page, parked));
-    assert!(rt; has_part(&page, "At worst 5 vehicles: 1 too many.</p>\n<table>"));
+    assert!(rt; has_part(&page, "At worst 5 of at most 4: 1 too many.</p>\n<table>"));
     // It began with the report's second moment: so it wasn't violated before.
     let page = section(alloc, half_hours(AUTUMN, -1, 3), &samples)?;
     assert!(rt; has_part(&page, "since 2026-11-01T00:30:00-04:00.</p>"));
