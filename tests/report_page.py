@@ -74,12 +74,18 @@ def worst_of(rule, measures):
 
 
 def since_of(rows, first, last):
-    """Since when a rule is violated at the last moment, by its rows; nothing where it isn't."""
-    if rows[-1][0] != last or rows[-1][9] != "violated":
+    """From when to when a rule was violated last whenever it was open, by its rows; nothing where it never was."""
+    judged = [row for row in rows if row[9] in OPEN]
+    kept = list(itertools.takewhile(lambda row: row[9] == "ok", reversed(judged)))
+    run = list(itertools.takewhile(lambda row: row[9] == "violated", reversed(judged[: len(judged) - len(kept)])))
+    if not run:
         return ""
-    run = list(itertools.takewhile(lambda row: row[9] == "violated", (row for row in reversed(rows) if row[9] in OPEN)))
-    before = " or before" if len(run) == sum(row[9] in OPEN for row in rows) and rows[0][0] == first else ""
-    return f"Violated at the report's end, and whenever the rule was open since {run[-1][1]}{before}."
+    since = run[-1][1] + (" or before" if len(run) + len(kept) == len(judged) and rows[0][0] == first else "")
+    if kept:
+        return f"Last violated, whenever the rule was open, from {since} to {run[0][1]}; it was kept since."
+    if run[0][0] == last:
+        return f"Violated at the report's end, and whenever the rule was open since {since}."
+    return f"Violated whenever the rule was open from {since} to {run[0][1]}, the last sample in which it was open."
 
 
 def limits_of(rule):

@@ -14,13 +14,16 @@ use Rattle.cli_report.specs.Names.{Label, label_of}
 use Rattle.cli_report.specs.Pieces.{IsWritten, Piece, markup, value}
 use Rattle.cli_report.specs.Ranks.{AreRanked, samples_of}
 use Rattle.cli_report.specs.Rows.{Operator}
-use Rattle.cli_report.specs.Since.{is_violated_at, may_be_before, violated_since}
+use Rattle.cli_report.specs.Since.{last_violated, spell_of}
 use Rattle.cli_report.specs.declared.counts.SampleCounts.{SampleCounts}
 use Rattle.cli_report.specs.declared.days.DaySample.{DaySample}
 use Rattle.cli_report.specs.declared.page.TheConstants.{HEAD, LEGEND}
 use Rattle.cli_report.specs.declared.ranking.RuleSpan.{RuleSpan}
 use Rattle.cli_report.specs.declared.reported.ReportHead as lent
 use Rattle.cli_report.specs.declared.reported.ReportSpan.{ReportSpan}
+use Rattle.cli_report.specs.declared.since.Spell.{Spell}
+use Rattle.cli_report.specs.declared.since.SpellEnd.{SpellEnd}
+use Rattle.cli_report.specs.declared.since.SpellEnd.TheVariants.{Present, Closed, Over}
 
 -- what a page says of its report: the city's title, which may be empty, the zone, when it was made, where that is known, by
 -- which program, and its first and last moment, and how many milliseconds moments are apart
@@ -88,19 +91,44 @@ abbrev pub judgment_pieces : Option Rule → List DaySample → List Piece
 judgment_pieces rule samples =
     counts_pieces (limits_behind rule) (worst_behind rule (violations samples)) (all_behind (counts_of samples)) (counts_of samples)
 
--- where it is violated at the report's last moment, since when it is
+-- since when it was violated in the last spell, whenever it was open, and until when
 abbrev pub before_text : Bool → List ℕ
 before_text true = codes " or before"
 before_text false = []
 
-abbrev pub since_pieces : Option ℕ → Bool → List Piece
-since_pieces since before =
-    markup (codes "<p>Violated at the report's end, and whenever the rule was open since ") ∷ value (local since)
-    ∷ markup (before_text before) ∷ markup (codes ".</p>\n") ∷ []
+abbrev pub begin_text : SpellEnd → List ℕ
+begin_text Present = codes "<p>Violated at the report's end, and whenever the rule was open since "
+begin_text Closed = codes "<p>Violated whenever the rule was open from "
+begin_text Over = codes "<p>Last violated, whenever the rule was open, from "
+
+abbrev pub until_text : SpellEnd → List ℕ
+until_text Present = []
+until_text Closed = codes " to "
+until_text Over = codes " to "
+
+-- a spell that goes on has no end that is told
+abbrev pub told_at : SpellEnd → ℕ → Option ℕ
+told_at Present until = None
+told_at Closed until = Some until
+told_at Over until = Some until
+
+abbrev pub end_text : SpellEnd → List ℕ
+end_text Present = codes ".</p>\n"
+end_text Closed = codes ", the last sample in which it was open.</p>\n"
+end_text Over = codes "; it was kept since.</p>\n"
+
+abbrev pub spell_pieces : Spell → List Piece
+spell_pieces spell =
+    markup (begin_text spell.end) ∷ value (local spell.since) ∷ markup (before_text spell.is_before)
+    ∷ markup (until_text spell.end) ∷ value (local (told_at spell.end spell.until)) ∷ markup (end_text spell.end) ∷ []
+
+-- nothing where it was never violated
+abbrev pub end_with : ReportSpan → List DaySample → Option ℕ → List Piece
+end_with span samples None = []
+end_with span samples (Some until) = spell_pieces (spell_of span until samples)
 
 abbrev pub end_pieces : ReportSpan → List DaySample → List Piece
-end_pieces span samples =
-    if is_violated_at span.last samples then since_pieces (violated_since samples) (may_be_before span.first samples) else []
+end_pieces span samples = end_with span samples (last_violated samples)
 
 -- a line for a day: the day, its drawing with marks at 6, 12 and 18 o'clock, and in how many of its samples in which the
 -- rule was open it was violated

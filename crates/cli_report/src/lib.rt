@@ -16,6 +16,7 @@ mod reported;
 mod rows;
 mod rule_section;
 mod since;
+mod spells;
 mod summary;
 mod timeline;
 mod verdicts;

@@ -58,7 +58,7 @@ A thin line: it was closed, or isn't evaluated. Nothing: it wasn't in force, not
 or there was no such hour, as clocks were set forward over it. Behind a line stands in how many of the day's samples, of those \
 in which the rule was open, it was violated.</p>
 <p>A sample is what the operator would have been told of its own fleet at that moment; of what was between two samples \
-nothing is said. Where a rule was violated in the last sample, it is said since when; where that isn't said, it wasn't.</p>
+nothing is said. Of each rule that was violated it is said from when to when it was so last, whenever it was open.</p>
 ";
 
 /// Appends the row of the city's title; nothing where it has none.

@@ -4,9 +4,8 @@ ghost use Rattle.mds_policy.specs.Policy.{rule_document};
 ghost use Rattle.cli_report.specs.Counts.{all_behind, counts_of};
 ghost use Rattle.cli_report.specs.Days.{grouped, violations};
 ghost use Rattle.cli_report.specs.Names.{label_view, tree_policy};
-ghost use Rattle.cli_report.specs.Page.{before_text, counts_pieces, day_pieces, days_pieces, end_pieces};
-ghost use Rattle.cli_report.specs.Page.{judgment_pieces, limits_behind, rule_pieces, rules_pieces, since_pieces};
-ghost use Rattle.cli_report.specs.Page.{title_pieces, worst_behind};
+ghost use Rattle.cli_report.specs.Page.{counts_pieces, day_pieces, days_pieces, judgment_pieces, limits_behind};
+ghost use Rattle.cli_report.specs.Page.{rule_pieces, rules_pieces, title_pieces, worst_behind};
 ghost use Rattle.cli_report.specs.Pieces.{IsWritten};
 ghost use Rattle.cli_report.specs.Ranks.{samples_of};
 ghost use Rattle.cli_report.specs.Texts.{Appends, Spells};
@@ -19,12 +18,11 @@ use crate::names::{PolicyTree, RuleLabel, label_of};
 use crate::pieces::{PagePiece, push_markup, push_pieces};
 use crate::ranking::{RuleSpan, samples_of};
 use crate::reported::ReportSpan;
-use crate::since::{is_violated_at, may_be_before, violated_since};
+use crate::spells::push_end;
 use crate::timeline::push_day_line;
 use crate::words::push_bounds;
 use mds_match::Zone;
 use mds_policy::Rule;
-use mds_text::Moment;
 use std::alloc::{AllocError, Global};
 
 /// Appends a rule's titles, by its names and by a sample of it.
@@ -134,48 +132,6 @@ fn push_judgment(
         all.as_str(),
         &counts,
     )
-}
-
-/// The words for a rule that may have been violated before.
-fn before_text(before: bool) -> &'static str
-    ensures { result.now ≡ before_text before }
-{
-    if before { " or before" } else { "" }
-}
-
-/// Appends since when a rule is violated.
-fn push_since(
-    out: &mut Vec<u8>,
-    zone: &Zone,
-    since: Option<Moment>,
-    before: bool,
-) -> Result<(), AllocError>
-    ensures { OnOk result (Appends (IsWritten zone.now (since_pieces since before)) out.old.items out.new.items) }
-{
-    let pieces = [
-        PagePiece::Markup("<p>Violated at the report's end, and whenever the rule was open since "),
-        PagePiece::Value(CellValue::Local(since)),
-        PagePiece::Markup(before_text(before)),
-        PagePiece::Markup(".</p>\n"),
-    ];
-    push_pieces(out, zone, &pieces)
-}
-
-/// Appends since when a rule is violated, where it is at the report's last moment.
-fn push_end(
-    out: &mut Vec<u8>,
-    zone: &Zone,
-    span: &ReportSpan,
-    samples: &[DaySample],
-) -> Result<(), AllocError>
-    ensures { OnOk result (Appends (IsWritten zone.now (end_pieces span.now samples.now)) out.old.items out.new.items) }
-{
-    if is_violated_at(span.last, samples) {
-        let before = may_be_before(span.first, samples);
-        push_since(out, zone, violated_since(samples), before)
-    } else {
-        push_pieces(out, zone, &[])
-    }
 }
 
 /// Appends a line for each day of a rule's samples in order.

@@ -64,7 +64,8 @@ fn is_next(at: Moment, next: Moment, every: u64) -> bool
 fn is_shown_next(zone: &Zone, at: Moment, next: Moment, every: u64) -> bool
     ensures { result ≡ (minute_at zone.now next == minute_at zone.now at + every / 60000) }
 {
-    minute_at(zone, next) == minute_at(zone, at) + every / MINUTE
+    let went = every / MINUTE;
+    minute_at(zone, next) == minute_at(zone, at) + went
 }
 
 /// Whether one mark goes on from a sample to the next one.

@@ -212,10 +212,33 @@ fn since_when_a_rule_is_violated(rt: HostRuntime) -> Result<(), AllocError> {
         <p>Violated at the report's end, and whenever the rule was open since \
         2026-11-01T00:30:00-04:00 or before.</p>\n";
     assert!(rt; has_part(&page, parked));
-    assert!(rt; has_part(&page, "At worst 5 of at most 4: 1 too many.</p>\n<table>"));
+    // The other one was violated in the sample before the last.
+    let cap = "At worst 5 of at most 4: 1 too many.</p>\n<p>Last violated, whenever the rule was open, from \
+        2026-11-01T01:00:00-04:00 to 2026-11-01T01:00:00-04:00; it was kept since.</p>\n<table>";
+    assert!(rt; has_part(&page, cap));
     // It began with the report's second moment: so it wasn't violated before.
     let page = section(alloc, half_hours(AUTUMN, -1, 3), &samples)?;
     assert!(rt; has_part(&page, "since 2026-11-01T00:30:00-04:00.</p>"));
+    Ok(())
+}
+
+// Violated, kept, violated, closed, violated and closed at the end: violated from 01:00 to 01:00 again, where that hour is
+// shown twice.
+#[test]
+fn until_when_a_closed_rule_was_violated(rt: HostRuntime) -> Result<(), AllocError> {
+    let alloc = rt.alloc();
+    let mut samples = Vec::new(alloc);
+    push_sample(&mut samples, AUTUMN, 0, 0, Status::Violated, 5)?;
+    push_sample(&mut samples, AUTUMN, 1, 0, Status::Ok, 4)?;
+    push_sample(&mut samples, AUTUMN, 2, 0, Status::Violated, 6)?;
+    push_sample(&mut samples, AUTUMN, 3, 0, Status::Inactive, 0)?;
+    push_sample(&mut samples, AUTUMN, 4, 0, Status::Violated, 5)?;
+    push_sample(&mut samples, AUTUMN, 5, 0, Status::Inactive, 0)?;
+    let page = section(alloc, half_hours(AUTUMN, 0, 5), &samples)?;
+    let cap = "Violated in 3 of 4 samples in which it was open (6 in all). At worst 6 of at most 4: 2 too many.</p>\n\
+        <p>Violated whenever the rule was open from 2026-11-01T01:00:00-04:00 to 2026-11-01T01:00:00-05:00, \
+        the last sample in which it was open.</p>\n<table>";
+    assert!(rt; has_part(&page, cap));
     Ok(())
 }
 
