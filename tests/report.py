@@ -494,7 +494,7 @@ def rules_are_told(made):
             if whose == IDS[token]:
                 rule, violated = made.documents[policy]["rules"][number], [int(row[10]) for row in rows if row[9] == "violated"]
                 told = f"{counts_of(rows)}{''.join(worst_of(rule, violated))}"
-                wanted.append((len(violated), (rows[0][7], policy, str(number), bounds_of(rule), told, since_of(rows, *ends))))
+                wanted.append((len(violated), (rows[0][7], policy, str(number + 1), bounds_of(rule), told, since_of(rows, *ends))))
         wanted = [it for _, it in sorted(wanted, key=lambda it: -it[0])]
         yield from differing(f"{token} on the page", RULE.findall(section), wanted)
 

@@ -1,11 +1,11 @@
 -- The page: its head, and an operator's section with its rules, the most often violated one first.
-use Rattle.std.specs.Prelude.{ℕ, ◌/◌, ◌==◌, List, [], ◌∷◌, ◌++◌, Bool, true, false, codes, length, map, if◌then◌else◌, Option, Some, None}
+use Rattle.std.specs.Prelude.{ℕ, ◌+◌, ◌/◌, ◌==◌, List, [], ◌∷◌, ◌++◌, Bool, true, false, codes, length, map, if◌then◌else◌, Option, Some, None}
 use Rattle.std.specs.List.{flat_map}
 use Rattle.mds_match.specs.Zone.{ZoneKind}
 use Rattle.mds_policy.specs.Policy.{Policy, Rule}
 use Rattle.journal_samples.specs.declared.sample.RuleSample.{RuleSample}
 use Rattle.cli_report.specs.Bounds.{bounds_text}
-use Rattle.cli_report.specs.Cells.{text, identifier, number, local, day}
+use Rattle.cli_report.specs.Cells.{Cell, text, identifier, number, local, day}
 use Rattle.cli_report.specs.Counts.{all_behind, counts_of}
 use Rattle.cli_report.specs.Days.{IsOrdered, day_sample, grouped, open_ones, violations}
 use Rattle.cli_report.specs.Excess.{worst_text}
@@ -73,12 +73,20 @@ abbrev pub worst_behind : Option Rule → List DaySample → List ℕ
 worst_behind None violated = []
 worst_behind (Some rule) violated = worst_text rule.kind rule.bounds violated
 
+-- a rule goes by its name, or else by its number in its policy, here counted from 1
+abbrev pub heading_text : (name : List ℕ) → List ℕ
+heading_text name = if length name == 0 then codes "Rule " else []
+
+abbrev pub heading : (name : List ℕ) → ℕ → Cell
+heading name place = if length name == 0 then number (place + 1) else text name
+
 -- a rule's titles, by its names and identifiers
 abbrev pub title_pieces : Label → DaySample → List Piece
 title_pieces label s =
-    markup (codes "<h3>") ∷ value (text label.name) ∷ markup (codes " <small>") ∷ value (identifier s.rule)
+    markup (codes "<h3>") ∷ markup (heading_text label.name) ∷ value (heading label.name s.number) ∷ markup (codes " <small>")
+    ∷ value (identifier s.rule)
     ∷ markup (codes "</small></h3>\n<p>Policy ") ∷ value (text label.policy) ∷ markup (codes " <small>") ∷ value (identifier s.policy)
-    ∷ markup (codes "</small>, rule ") ∷ value (number s.number) ∷ []
+    ∷ markup (codes "</small>, rule ") ∷ value (number (s.number + 1)) ∷ []
 
 -- its bounds, how often it was violated, and by how much
 abbrev pub counts_pieces : (limits worst all : List ℕ) → SampleCounts → List Piece

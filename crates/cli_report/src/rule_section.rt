@@ -1,11 +1,12 @@
 //! A rule on the page: its titles, its bounds, how often, by how much and since when it is violated, and its days.
 ghost use Rattle.std.specs.Prelude.{◌≡◌, ◌<◌, ◌++◌, IfOk, OnOk, length, map, option_map, string_bytes};
 ghost use Rattle.mds_policy.specs.Policy.{rule_document};
+ghost use Rattle.cli_report.specs.Cells.{cell_view};
 ghost use Rattle.cli_report.specs.Counts.{all_behind, counts_of};
 ghost use Rattle.cli_report.specs.Days.{grouped, violations};
 ghost use Rattle.cli_report.specs.Names.{label_view, tree_policy};
-ghost use Rattle.cli_report.specs.Page.{counts_pieces, day_pieces, days_pieces, judgment_pieces, limits_behind};
-ghost use Rattle.cli_report.specs.Page.{rule_pieces, rules_pieces, title_pieces, worst_behind};
+ghost use Rattle.cli_report.specs.Page.{counts_pieces, day_pieces, days_pieces, heading, heading_text, judgment_pieces};
+ghost use Rattle.cli_report.specs.Page.{limits_behind, rule_pieces, rules_pieces, title_pieces, worst_behind};
 ghost use Rattle.cli_report.specs.Pieces.{IsWritten};
 ghost use Rattle.cli_report.specs.Ranks.{samples_of};
 ghost use Rattle.cli_report.specs.Texts.{Appends, Spells};
@@ -25,6 +26,24 @@ use mds_match::Zone;
 use mds_policy::Rule;
 use std::alloc::{AllocError, Global};
 
+/// What stands in front of what a rule goes by: nothing in front of its name.
+fn heading_text(name: &[u8]) -> &'static str
+    ensures { result.now ≡ heading_text name.now }
+{
+    if name.is_empty() { "Rule " } else { "" }
+}
+
+/// What a rule goes by: its name, or else its number.
+fn heading(name: &[u8], place: usize) -> CellValue<'_>
+    ensures { cell_view result ≡ heading name.now place }
+{
+    if name.is_empty() {
+        CellValue::Place(place)
+    } else {
+        CellValue::Text(name)
+    }
+}
+
 /// Appends a rule's titles, by its names and by a sample of it.
 fn push_titles<'x>(
     out: &mut Vec<u8>,
@@ -37,7 +56,8 @@ fn push_titles<'x>(
 {
     let pieces = [
         PagePiece::Markup("<h3>"),
-        PagePiece::Value(CellValue::Text(label.name)),
+        PagePiece::Markup(heading_text(label.name)),
+        PagePiece::Value(heading(label.name, first.number)),
         PagePiece::Markup(" <small>"),
         PagePiece::Value(CellValue::Id(first.rule)),
         PagePiece::Markup("</small></h3>\n<p>Policy "),
@@ -45,7 +65,7 @@ fn push_titles<'x>(
         PagePiece::Markup(" <small>"),
         PagePiece::Value(CellValue::Id(first.policy)),
         PagePiece::Markup("</small>, rule "),
-        PagePiece::Value(CellValue::Number(first.number as u64)),
+        PagePiece::Value(CellValue::Place(first.number)),
     ];
     push_pieces(out, zone, &pieces)
 }

@@ -187,7 +187,7 @@ fn by_how_much_a_count_is_off(rt: HostRuntime) -> Result<(), AllocError> {
     push_sample(&mut samples, AUTUMN, 3, 0, Status::Violated, 6)?;
     let page = section(alloc, half_hours(AUTUMN, 0, 3), &samples)?;
     let judged =
-        "rule 0: at least 2 and at most 4 vehicles. Violated in 3 of 4 samples. At worst 7 of at most 4: 3 too many. \
+        "rule 1: at least 2 and at most 4 vehicles. Violated in 3 of 4 samples. At worst 7 of at most 4: 3 too many. \
         At worst 1 of at least 2: 1 too few.</p>\n<p>Violated at the report's end, and whenever the rule was open since \
         2026-11-01T01:30:00-04:00.</p>\n<table>";
     assert!(rt; has_part(&page, judged));
@@ -208,7 +208,7 @@ fn since_when_a_rule_is_violated(rt: HostRuntime) -> Result<(), AllocError> {
     push_sample(&mut samples, AUTUMN, 3, 1, Status::Violated, 5)?;
     let page = section(alloc, half_hours(AUTUMN, 0, 3), &samples)?;
     let parked =
-        "rule 1: fewer than 24 hours in one state. Violated in 2 of 2 samples in which it was open (4 in all). At worst 5 vehicles at once.</p>\n\
+        "rule 2: fewer than 24 hours in one state. Violated in 2 of 2 samples in which it was open (4 in all). At worst 5 vehicles at once.</p>\n\
         <p>Violated at the report's end, and whenever the rule was open since \
         2026-11-01T00:30:00-04:00 or before.</p>\n";
     assert!(rt; has_part(&page, parked));
