@@ -499,11 +499,12 @@ def rules_are_told(made):
         yield from differing(f"{token} on the page", RULE.findall(section), wanted)
 
 
+UNTITLED = "Rules for shared vehicles (no city is named: the configuration has no page.title)"
 HEAD_ROW = re.compile(r"<tr><th>([^<]*)</th><td>([^<]*)</td></tr>\n")
 
 
 def heads_are_told(program, replay):
-    """The page begins with the city's title, if it has one, its zone, the first and last moment, how far samples are apart, and when and by
+    """The page begins with the city's title, or that it has none, its zone, the first and last moment, how far samples are apart, and when and by
     which program it was made."""
     with tempfile.TemporaryDirectory(prefix="report-") as room:
         for number, (page, zone) in enumerate((({"page": {"title": "River & City"}}, "America/New_York"), ({}, NEW_YORK), ({"page": 1}, "Z"))):
@@ -526,7 +527,8 @@ def heads_are_told(program, replay):
                            ((at, local_text(at)) for at in (SUMMER, SUMMER + 50 * MINUTE)))
             wanted = {"First sample": first, "Last sample": last, "Sampled every": "25 minutes", "By": version}
             wanted["Time zone"] = f"{zone} (EST5EDT,M3.2.0,M11.1.0)" if "/" in zone else zone
-            if found != wanted | ({"City": "River &amp; City"} if number == 0 else {}):
+            wanted["City"] = UNTITLED if number else "River &amp; City"
+            if found != wanted:
                 yield f"the page begins with {found}, and not with {wanted}"
 
 

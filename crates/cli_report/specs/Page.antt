@@ -37,11 +37,16 @@ pub record Head : Type 0 where
 abbrev pub head_view : lent.ReportHead → Head
 head_view h = record { city = h.city.now; zone = h.zone.now; made = h.made; program = h.program.now; span = h.span }
 
--- nothing where a city has no title
+-- a city without a title goes by what the page for people calls itself then
+abbrev pub title_text : List ℕ → List ℕ
+title_text title =
+    if length title == 0
+    then codes "Rules for shared vehicles (no city is named: the configuration has no page.title)"
+    else title
+
 abbrev pub city_pieces : List ℕ → List Piece
 city_pieces title =
-    if length title == 0 then []
-    else markup (codes "<tr><th>City</th><td>") ∷ value (text title) ∷ markup (codes "</td></tr>\n") ∷ []
+    markup (codes "<tr><th>City</th><td>") ∷ value (text (title_text title)) ∷ markup (codes "</td></tr>\n") ∷ []
 
 abbrev pub minutes_text : ℕ → List ℕ
 minutes_text n = if n == 1 then codes " minute" else codes " minutes"

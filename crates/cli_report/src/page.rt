@@ -4,7 +4,7 @@ ghost use Rattle.std.specs.Prelude.{◌≡◌, ◌++◌, codes, IfOk, OnOk};
 ghost use Rattle.mds_catalog.specs.Catalogue.{publications_of};
 ghost use Rattle.cli_report.specs.Names.{policies_in};
 ghost use Rattle.cli_report.specs.Page.{IsSection, city_pieces, head_pieces, head_view, minutes_text, moments_pieces};
-ghost use Rattle.cli_report.specs.Page.{name_pieces};
+ghost use Rattle.cli_report.specs.Page.{name_pieces, title_text};
 ghost use Rattle.cli_report.specs.Pieces.{IsWritten};
 ghost use Rattle.cli_report.specs.Rows.{operator_view};
 ghost use Rattle.cli_report.specs.Texts.{Appends};
@@ -61,16 +61,24 @@ in which the rule was open, it was violated.</p>
 nothing is said. Of each rule that was violated it is said from when to when it was so last, whenever it was open.</p>
 ";
 
-/// Appends the row of the city's title; nothing where it has none.
+/// What a city is called that has this title; what is said where it has none.
+fn title_text(title: &[u8]) -> &[u8]
+    ensures { result.now ≡ title_text title.now }
+{
+    if title.is_empty() {
+        b"Rules for shared vehicles (no city is named: the configuration has no page.title)"
+    } else {
+        title
+    }
+}
+
+/// Appends the row of the city's title.
 fn push_city(out: &mut Vec<u8>, zone: &Zone, title: &[u8]) -> Result<(), AllocError>
     ensures { OnOk result (Appends (IsWritten zone.now (city_pieces title.now)) out.old.items out.new.items) }
 {
-    if title.is_empty() {
-        return push_pieces(out, zone, &[]);
-    }
     let pieces = [
         PagePiece::Markup("<tr><th>City</th><td>"),
-        PagePiece::Value(CellValue::Text(title)),
+        PagePiece::Value(CellValue::Text(title_text(title))),
         PagePiece::Markup("</td></tr>\n"),
     ];
     push_pieces(out, zone, &pieces)

@@ -30,7 +30,7 @@ pub struct ReportSpan {
 /// What a page says of its report.
 #[derive(Clone, Copy)]
 pub struct ReportHead<'a> {
-    /// The city's title, as bytes of UTF-8; empty where it has none.
+    /// The city's title, as bytes of UTF-8; empty where it has none, and then the page says so.
     pub city: &'a [u8],
     /// The zone in which times are local, as bytes of UTF-8.
     pub zone: &'a [u8],

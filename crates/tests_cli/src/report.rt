@@ -254,7 +254,12 @@ fn a_night_on_the_page(rt: HostRuntime) -> Result<(), AllocError> {
         )
     );
     assert!(rt; has_part(&out, "<th>Sampled every</th><td>60 minutes</td>"));
-    assert!(rt; !has_part(&out, "<th>City</th>"));
+    assert!(rt;
+        has_part(
+            &out,
+            "<th>City</th><td>Rules for shared vehicles (no city is named: the configuration has no page.title)</td>"
+        )
+    );
     assert!(rt; has_part(&out, "<h2>&lt;script&gt; <small>"));
     assert!(rt; !has_part(&out, "<script"));
     // The rule has no name.
