@@ -532,6 +532,37 @@ def heads_are_told(program, replay):
                 yield f"the page begins with {found}, and not with {wanted}"
 
 
+def nothing_is_told_of_what_is_to_come(program, replay):
+    """A report that is asked for up to a moment that is still to come ends when it is made, and says so; none begins then. One up to a moment
+    that is over says nothing of it."""
+    with tempfile.TemporaryDirectory(prefix="report-") as room:
+        city = Journal(program, room, configuration(), payloads(accepted(replay, configuration(), hostile_city(("cap", "rule")))))
+        begun = int(time.time() * 1000)
+        first, last = begun - 2 * HOUR, begun + DAY
+        status, _, err = city.report(first, last, "--operator", ALFA_ID)
+        done, files = int(time.time() * 1000), city.files()
+        if status or err.decode().splitlines()[0] != f"ruffletuff: the moment of --to is still to come, so the report ends now: {last}":
+            yield f"report ends with {status, err}"
+        found = [it[0] for it in rows_of(files["verdicts.csv"], COLUMNS)]
+        least, most = (len(range(first, it, 5 * MINUTE)) for it in (begun, done))
+        if not least <= len(found) <= most or found != [moment_text(first + it * 5 * MINUTE) for it in range(len(found))]:
+            yield f"of {least} to {most} moments are told {found}"
+        told = dict(HEAD_ROW.findall(files["report.html"].decode()))
+        stated, ended_at = told["Asked for up to"].partition(", "), rows_of(files["verdicts.csv"], COLUMNS)[-1][1]
+        if round(datetime.fromisoformat(stated[0]).timestamp() * 1000) != last:
+            yield f"the page says that it was asked for up to {stated}"
+        if stated[2] != "which was still to come: the report ends when it was made" or told["Last sample"] != ended_at:
+            yield f"the page begins with {told}"
+        for name in NAMES:
+            os.remove(os.path.join(city.out, name))
+        said = f"ruffletuff: the moment of --to is still to come, so the report ends now: {last}\n"
+        said += f"ruffletuff: the moment of --to isn't later than that of --from: {last}\n"
+        yield from is_refused(city, 2, said, times=(begun + HOUR, last))
+        status, _, err = city.report(SUMMER, SUMMER + HOUR)
+        if status or b"to come" in err or "Asked for up to" in city.files()["report.html"].decode():
+            yield f"of a report up to a moment that is over is said {err}"
+
+
 # --- Names ---------------------------------------------------------------------------------------------------------
 
 
@@ -764,6 +795,7 @@ OF_A_CITY = (
 )
 FURTHER = (
     heads_are_told,
+    nothing_is_told_of_what_is_to_come,
     hostile_names,
     operators_stand_in_order,
     arguments_are_refused,

@@ -25,17 +25,27 @@ use Rattle.cli_report.specs.declared.since.Spell.{Spell}
 use Rattle.cli_report.specs.declared.since.SpellEnd.{SpellEnd}
 use Rattle.cli_report.specs.declared.since.SpellEnd.TheVariants.{Present, Closed, Over}
 
--- what a page says of its report: the city's title, which may be empty, the zone, when it was made, where that is known, by
--- which program, and its first and last moment, and how many milliseconds moments are apart
+-- what a page says of its report: the city's title, which may be empty, the zone, when it was made, where that is known, up
+-- to when it was asked for, where that was still to come, by which program, and its first and last moment, and how many
+-- milliseconds moments are apart
 pub record Head : Type 0 where
   pub city : List ℕ
   pub zone : List ℕ
   pub made : Option ℕ
+  pub to_come : Option ℕ
   pub program : List ℕ
   pub span : ReportSpan
 
 abbrev pub head_view : lent.ReportHead → Head
-head_view h = record { city = h.city.now; zone = h.zone.now; made = h.made; program = h.program.now; span = h.span }
+head_view h =
+    record {
+      city = h.city.now;
+      zone = h.zone.now;
+      made = h.made;
+      to_come = h.to_come;
+      program = h.program.now;
+      span = h.span;
+    }
 
 -- a city without a title goes by what the page for people calls itself then
 abbrev pub title_text : List ℕ → List ℕ
@@ -47,6 +57,13 @@ title_text title =
 abbrev pub city_pieces : List ℕ → List Piece
 city_pieces title =
     markup (codes "<tr><th>City</th><td>") ∷ value (text (title_text title)) ∷ markup (codes "</td></tr>\n") ∷ []
+
+-- nothing where a report was asked for up to a moment that was over
+abbrev pub to_come_pieces : Option ℕ → List Piece
+to_come_pieces None = []
+to_come_pieces (Some t) =
+    markup (codes "<tr><th>Asked for up to</th><td>") ∷ value (local (Some t))
+    ∷ markup (codes ", which was still to come: the report ends when it was made</td></tr>\n") ∷ []
 
 abbrev pub minutes_text : ℕ → List ℕ
 minutes_text n = if n == 1 then codes " minute" else codes " minutes"
@@ -67,7 +84,7 @@ moments_pieces h = moments_with h (minutes_text (h.span.every / 60000))
 
 -- what a page begins with, from its style to what its signs mean
 abbrev pub head_pieces : Head → List Piece
-head_pieces h = markup HEAD.now ∷ city_pieces h.city ++ moments_pieces h
+head_pieces h = markup HEAD.now ∷ city_pieces h.city ++ to_come_pieces h.to_come ++ moments_pieces h
 
 -- what stands behind a rule's number: its bounds, and by how much violated samples are outside of them
 abbrev pub limits_behind : Option Rule → List ℕ

@@ -4,7 +4,7 @@ ghost use Rattle.std.specs.Prelude.{◌≡◌, ◌++◌, codes, IfOk, OnOk};
 ghost use Rattle.mds_catalog.specs.Catalogue.{publications_of};
 ghost use Rattle.cli_report.specs.Names.{policies_in};
 ghost use Rattle.cli_report.specs.Page.{IsSection, city_pieces, head_pieces, head_view, minutes_text, moments_pieces};
-ghost use Rattle.cli_report.specs.Page.{name_pieces, title_text};
+ghost use Rattle.cli_report.specs.Page.{name_pieces, title_text, to_come_pieces};
 ghost use Rattle.cli_report.specs.Pieces.{IsWritten};
 ghost use Rattle.cli_report.specs.Rows.{operator_view};
 ghost use Rattle.cli_report.specs.Texts.{Appends};
@@ -17,6 +17,7 @@ use crate::ranking::ranked_rules;
 use crate::reported::{ReportHead, ReportSpan, ReportedOperator};
 use crate::rule_section::push_rules;
 use mds_match::Zone;
+use mds_text::Moment;
 use std::alloc::{AllocError, Global};
 
 /// The milliseconds of a minute.
@@ -84,6 +85,29 @@ fn push_city(out: &mut Vec<u8>, zone: &Zone, title: &[u8]) -> Result<(), AllocEr
     push_pieces(out, zone, &pieces)
 }
 
+/// Appends the row of the moment up to which a report was asked for, where it was still to come.
+fn push_to_come(
+    out: &mut Vec<u8>,
+    zone: &Zone,
+    to_come: Option<Moment>,
+) -> Result<(), AllocError>
+    ensures { OnOk result (Appends (IsWritten zone.now (to_come_pieces to_come)) out.old.items out.new.items) }
+{
+    match to_come {
+        Some(at) => {
+            let pieces = [
+                PagePiece::Markup("<tr><th>Asked for up to</th><td>"),
+                PagePiece::Value(CellValue::Local(Some(at))),
+                PagePiece::Markup(
+                    ", which was still to come: the report ends when it was made</td></tr>\n",
+                ),
+            ];
+            push_pieces(out, zone, &pieces)
+        }
+        None => push_pieces(out, zone, &[]),
+    }
+}
+
 /// The word behind a number of minutes.
 fn minutes_text<'x>(minutes: u64) -> &'x str
     ensures { result.now ≡ minutes_text minutes }
@@ -124,6 +148,7 @@ fn push_head(out: &mut Vec<u8>, zone: &Zone, head: &ReportHead<'_>) -> Result<()
 {
     push_markup(out, zone, HEAD)?;
     push_city(out, zone, head.city)?;
+    push_to_come(out, zone, head.to_come)?;
     push_moments(out, zone, head)
 }
 

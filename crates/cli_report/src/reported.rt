@@ -36,6 +36,9 @@ pub struct ReportHead<'a> {
     pub zone: &'a [u8],
     /// When the report was made, in milliseconds since the Unix epoch; `None` where no clock said so.
     pub made: Option<Moment>,
+    /// The moment up to which it was asked for, where that was still to come, in milliseconds since the Unix epoch: then
+    /// it ends when it was made.
+    pub to_come: Option<Moment>,
     /// The program that made it, with its version, as bytes of UTF-8.
     pub program: &'a [u8],
     /// Its moments.

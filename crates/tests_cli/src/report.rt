@@ -85,6 +85,7 @@ fn head(span: ReportSpan) -> ReportHead<'static> {
         city: b"",
         zone: b"America/New_York",
         made: None,
+        to_come: None,
         program: b"ruffletuff",
         span,
     }

@@ -291,11 +291,14 @@ fn a_page_says_what_it_is_about(rt: HostRuntime) -> Result<(), AllocError> {
         city: b"River & City",
         zone: b"America/New_York (EST5EDT,M3.2.0,M11.1.0)",
         made: Moment::new(AUTUMN),
+        to_come: Moment::new(SPRING),
         program: b"ruffletuff 1.3.0",
         span,
     };
     let out = page_start(alloc, &zone, &head)?;
     let rows = "<tr><th>City</th><td>River &amp; City</td></tr>\n\
+        <tr><th>Asked for up to</th><td>2026-03-08T00:00:00-05:00, which was still to come: the report ends when it was \
+        made</td></tr>\n\
         <tr><th>Time zone</th><td>America/New_York (EST5EDT,M3.2.0,M11.1.0)</td></tr>\n\
         <tr><th>First sample</th><td>2026-11-01T00:00:00-04:00</td></tr>\n\
         <tr><th>Last sample</th><td>2026-11-01T01:30:00-04:00</td></tr>\n\
