@@ -41,10 +41,10 @@ AUTHOR, ALFA, BRAVO = "city", "alfa", "bravo"
 ALFA_ID, BRAVO_ID, FURTHER_ID = (identifier(9, it) for it in (0xA1, 0xB1, 0xC1))
 IDS = {ALFA: ALFA_ID, BRAVO: BRAVO_ID}
 NEW_YORK = "EST5EDT,M3.2.0,M11.1.0"
-# 2026-03-07, 2026-10-31 and 2026-06-12 at midnight in New York, in milliseconds since the Unix epoch; behind the first two the clocks are
-# set forward on 8 March at 07:00 UTC, and back on 1 November at 06:00 UTC.
-SPRING, AUTUMN, SUMMER = 1_772_859_600_000, 1_793_419_200_000, 1_781_236_800_000
-FORWARD, BACK = 1_772_953_200_000, 1_793_512_800_000
+# 2025-03-08, 2025-11-01 and 2025-06-12 at midnight in New York, in milliseconds since the Unix epoch; behind the first two the clocks are
+# set forward on 9 March at 07:00 UTC, and back on 2 November at 06:00 UTC. All are over, since a report tells nothing of what is to come.
+SPRING, AUTUMN, SUMMER = 1_741_410_000_000, 1_761_969_600_000, 1_749_700_800_000
+FORWARD, BACK = 1_741_503_600_000, 1_762_063_200_000
 MINUTE, HOUR, DAY = 60_000, 3_600_000, 86_400_000
 EVERY = 30  # minutes
 STEPS, DEVICES = 90, 4
@@ -260,7 +260,7 @@ def moment_text(at):
 
 
 def ahead_of(at):
-    """How many hours New York's clocks are ahead of UTC's at a moment of 2026."""
+    """How many hours New York's clocks are ahead of UTC's at a moment of 2025."""
     return -4 if FORWARD <= at < BACK else -5
 
 
