@@ -526,7 +526,8 @@ def heads_are_told(program, replay):
             first, last = (it if zone != "Z" else moment_text(at).replace("Z", "+00:00") for at, it in
                            ((at, local_text(at)) for at in (SUMMER, SUMMER + 50 * MINUTE)))
             wanted = {"First sample": first, "Last sample": last, "Sampled every": "25 minutes", "By": version}
-            wanted["Time zone"] = f"{zone} (EST5EDT,M3.2.0,M11.1.0)" if "/" in zone else zone
+            words = "UTC" if zone == "Z" else "UTC-05:00, in summer UTC-04:00"
+            wanted["Time zone"] = f"{zone} ({words})" if "/" in zone else words
             wanted["City"] = UNTITLED if number else "River &amp; City"
             if found != wanted:
                 yield f"the page begins with {found}, and not with {wanted}"

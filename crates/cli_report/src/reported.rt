@@ -32,7 +32,7 @@ pub struct ReportSpan {
 pub struct ReportHead<'a> {
     /// The city's title, as bytes of UTF-8; empty where it has none, and then the page says so.
     pub city: &'a [u8],
-    /// The zone in which times are local, as bytes of UTF-8.
+    /// The zone in which times are local, in words, as bytes of UTF-8.
     pub zone: &'a [u8],
     /// When the report was made, in milliseconds since the Unix epoch; `None` where no clock said so.
     pub made: Option<Moment>,

@@ -309,7 +309,7 @@ fn head_of(
     span: ReportSpan,
 ) -> ReportHead<'_>
     ensures city { result.city.now ≡ string_bytes texts.now.city.title }
-    ensures zone { result.zone.now ≡ string_bytes texts.now.city.zone }
+    ensures zone { result.zone.now ≡ texts.now.city.zone.items }
     ensures program { result.program.now ≡ string_bytes texts.now.program }
     ensures made { result.made ≡ made }
     ensures to_come { result.to_come ≡ to_come }
@@ -317,7 +317,7 @@ fn head_of(
 {
     ReportHead {
         city: texts.city.title.as_bytes(),
-        zone: texts.city.zone.as_bytes(),
+        zone: &texts.city.zone,
         made,
         to_come,
         program: texts.program.as_bytes(),

@@ -289,7 +289,7 @@ fn a_page_says_what_it_is_about(rt: HostRuntime) -> Result<(), AllocError> {
     let span = half_hours(AUTUMN, 0, 3).expect(&rt, "a span");
     let head = ReportHead {
         city: b"River & City",
-        zone: b"America/New_York (EST5EDT,M3.2.0,M11.1.0)",
+        zone: b"America/New_York (UTC-05:00, in summer UTC-04:00)",
         made: Moment::new(AUTUMN),
         to_come: Moment::new(SPRING),
         program: b"ruffletuff 1.3.0",
@@ -299,7 +299,7 @@ fn a_page_says_what_it_is_about(rt: HostRuntime) -> Result<(), AllocError> {
     let rows = "<tr><th>City</th><td>River &amp; City</td></tr>\n\
         <tr><th>Asked for up to</th><td>2026-03-08T00:00:00-05:00, which was still to come: the report ends when it was \
         made</td></tr>\n\
-        <tr><th>Time zone</th><td>America/New_York (EST5EDT,M3.2.0,M11.1.0)</td></tr>\n\
+        <tr><th>Time zone</th><td>America/New_York (UTC-05:00, in summer UTC-04:00)</td></tr>\n\
         <tr><th>First sample</th><td>2026-11-01T00:00:00-04:00</td></tr>\n\
         <tr><th>Last sample</th><td>2026-11-01T01:30:00-04:00</td></tr>\n\
         <tr><th>Sampled every</th><td>30 minutes</td></tr>\n\
