@@ -1,5 +1,5 @@
 //! A rule on the page: its titles, its bounds, how often, by how much and since when it is violated, and its days.
-ghost use Rattle.std.specs.Prelude.{◌≡◌, ◌<◌, ◌++◌, IfOk, OnOk, length, map, option_map, string_bytes};
+ghost use Rattle.std.specs.Prelude.{◌≡◌, ◌++◌, IfOk, OnOk, map, option_map, string_bytes};
 ghost use Rattle.mds_policy.specs.Policy.{rule_document};
 ghost use Rattle.cli_report.specs.Cells.{cell_view};
 ghost use Rattle.cli_report.specs.Counts.{all_behind, counts_of};
@@ -191,26 +191,6 @@ fn push_days(
     push_markup(out, zone, "</table>\n")
 }
 
-/// Appends a rule with its days, by its samples in order.
-fn push_sampled_rule(
-    out: &mut Vec<u8>,
-    zone: &Zone,
-    span: &ReportSpan,
-    trees: &[PolicyTree<'_>],
-    samples: &[DaySample],
-) -> Result<(), AllocError>
-    requires { 0 < length samples.now }
-    ensures { OnOk result (Appends (IsWritten zone.now (rule_pieces zone.now span.now (map tree_policy trees.now) samples.now))
-        out.old.items out.new.items) }
-{
-    let first = first_of(samples);
-    let label = label_of(trees, first.policy, first.number);
-    push_titles(out, zone, &label, first)?;
-    push_judgment(out, zone, label.rule, samples)?;
-    push_end(out, zone, span, samples)?;
-    push_days(out, zone, span, samples)
-}
-
 /// Appends a rule with its days, by its samples in order; nothing where there are none.
 fn push_rule(
     out: &mut Vec<u8>,
@@ -223,10 +203,14 @@ fn push_rule(
         out.old.items out.new.items) }
 {
     if samples.is_empty() {
-        push_pieces(out, zone, &[])
-    } else {
-        push_sampled_rule(out, zone, span, trees, samples)
+        return push_pieces(out, zone, &[]);
     }
+    let first = first_of(samples);
+    let label = label_of(trees, first.policy, first.number);
+    push_titles(out, zone, &label, first)?;
+    push_judgment(out, zone, label.rule, samples)?;
+    push_end(out, zone, span, samples)?;
+    push_days(out, zone, span, samples)
 }
 
 /// Appends a rule of samples in order.
