@@ -504,8 +504,8 @@ HEAD_ROW = re.compile(r"<tr><th>([^<]*)</th><td>([^<]*)</td></tr>\n")
 
 
 def heads_are_told(program, replay):
-    """The page begins with the city's title, or that it has none, its zone, the first and last moment, how far samples are apart, and when and by
-    which program it was made."""
+    """The page begins with the city's title, or that it has none, its zone, the first and last moment, how far samples are apart, and when and
+    by which program it was made."""
     with tempfile.TemporaryDirectory(prefix="report-") as room:
         for number, (page, zone) in enumerate((({"page": {"title": "River & City"}}, "America/New_York"), ({}, NEW_YORK), ({"page": 1}, "Z"))):
             if "/" in zone and not os.path.exists(os.path.join("/usr/share/zoneinfo", zone)):
