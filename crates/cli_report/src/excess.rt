@@ -69,12 +69,7 @@ fn lack_words(alloc: Global, lack: u128) -> Result<String, AllocError>
 }
 
 /// The words for a measure that is too great; none where it isn't.
-fn excess_text(
-    alloc: Global,
-    measure: u64,
-    bound: &str,
-    excess: u128,
-) -> Result<String, AllocError>
+fn excess_text(alloc: Global, measure: u64, bound: &str, excess: u128) -> Result<String, AllocError>
     ensures { IfOk result (λ text. string_bytes text ≡ excess_text measure bound.now excess) }
 {
     if excess == 0 {
@@ -87,12 +82,7 @@ fn excess_text(
 }
 
 /// The words for a measure that is too small; none where it isn't.
-fn lack_text(
-    alloc: Global,
-    measure: u64,
-    bound: &str,
-    lack: u128,
-) -> Result<String, AllocError>
+fn lack_text(alloc: Global, measure: u64, bound: &str, lack: u128) -> Result<String, AllocError>
     ensures { IfOk result (λ text. string_bytes text ≡ lack_text measure bound.now lack) }
 {
     if lack == 0 {

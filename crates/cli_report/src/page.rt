@@ -86,11 +86,7 @@ fn push_city(out: &mut Vec<u8>, zone: &Zone, title: &[u8]) -> Result<(), AllocEr
 }
 
 /// Appends the row of the moment up to which a report was asked for, where it was still to come.
-fn push_to_come(
-    out: &mut Vec<u8>,
-    zone: &Zone,
-    to_come: Option<Moment>,
-) -> Result<(), AllocError>
+fn push_to_come(out: &mut Vec<u8>, zone: &Zone, to_come: Option<Moment>) -> Result<(), AllocError>
     ensures { OnOk result (Appends (IsWritten zone.now (to_come_pieces to_come)) out.old.items out.new.items) }
 {
     match to_come {

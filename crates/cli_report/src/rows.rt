@@ -62,11 +62,7 @@ fn push_line_end(out: &mut Vec<u8>) -> Result<(), AllocError>
 }
 
 /// Appends the cells that say which rule a row is about, behind the operator's identifier.
-fn push_subject(
-    out: &mut Vec<u8>,
-    zone: &Zone,
-    subject: &RowSubject<'_>,
-) -> Result<(), AllocError>
+fn push_subject(out: &mut Vec<u8>, zone: &Zone, subject: &RowSubject<'_>) -> Result<(), AllocError>
     ensures { OnOk result (Appends (Spells (IsLater zone.now) (subject_cells subject.now)) out.old.items out.new.items) }
 {
     let cells = [

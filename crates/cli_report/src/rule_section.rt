@@ -144,14 +144,7 @@ fn push_judgment(
     let worst = worst_of(alloc, rule, &violated)?;
     let counts = counts_of(alloc, samples)?;
     let all = all_behind(alloc, &counts)?;
-    push_counts(
-        out,
-        zone,
-        &limits,
-        worst.as_str(),
-        all.as_str(),
-        &counts,
-    )
+    push_counts(out, zone, &limits, worst.as_str(), all.as_str(), &counts)
 }
 
 /// Appends a line for each day of a rule's samples in order.

@@ -173,11 +173,7 @@ fn is_by(at: Moment, until: Moment) -> bool
 }
 
 /// The samples up to a moment.
-fn up_to(
-    alloc: Global,
-    until: Moment,
-    samples: &[DaySample],
-) -> Result<Vec<DaySample>, AllocError>
+fn up_to(alloc: Global, until: Moment, samples: &[DaySample]) -> Result<Vec<DaySample>, AllocError>
     ensures { IfOk result (λ v. v.items ≡ up_to until samples.now) }
 {
     let mut found = Vec::new(alloc);

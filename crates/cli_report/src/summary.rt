@@ -121,7 +121,14 @@ fn push_tally<'x>(
         CellValue::Number(tally.greatest_measure),
         CellValue::NumberIf(tally.least_measure),
     ];
-    push_row(out, zone, &CellValue::Id(operator.id), &[], &subject, &behind)
+    push_row(
+        out,
+        zone,
+        &CellValue::Id(operator.id),
+        &[],
+        &subject,
+        &behind,
+    )
 }
 
 /// Appends the row of the samples of a rule's day.

@@ -105,7 +105,14 @@ fn push_verdict<'x>(
         CellValue::Bound(maximum(label)),
         CellValue::Text(units(label)),
     ];
-    push_row(out, zone, &CellValue::Utc(sample.at), &front, &subject, &behind)
+    push_row(
+        out,
+        zone,
+        &CellValue::Utc(sample.at),
+        &front,
+        &subject,
+        &behind,
+    )
 }
 
 /// Appends a row for each of these samples, in their order.
