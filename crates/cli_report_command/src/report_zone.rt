@@ -53,11 +53,7 @@ fn season(standard: i32, saving: i32) -> &'static [u8]
 }
 
 /// Appends the offset of daylight saving time, where there is such.
-fn push_saving(
-    text: &mut Vec<u8>,
-    standard: i32,
-    saving: &Option<Dst>,
-) -> Result<(), AllocError>
+fn push_saving(text: &mut Vec<u8>, standard: i32, saving: &Option<Dst>) -> Result<(), AllocError>
     ensures { OnOk result (text.new.items ≡ text.old.items ++ saving_text standard (option_map dst_view saving.now)) }
 {
     match saving {

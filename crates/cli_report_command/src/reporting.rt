@@ -131,7 +131,9 @@ fn time_of(
 /// come.
 fn tell_end<R: Eprint>(rt: &R, to_come: Option<Moment>, asked: &str) {
     if to_come.is_some() {
-        let _ = eprintln!(rt; "ruffletuff: the moment of --to is still to come, so the report ends now: {asked}");
+        let _ = eprintln!(rt;
+            "ruffletuff: the moment of --to is still to come, so the report ends now: {asked}"
+        );
     }
 }
 

@@ -264,7 +264,12 @@ fn a_night_on_the_page(rt: HostRuntime) -> Result<(), AllocError> {
     assert!(rt; has_part(&out, "<h2>&lt;script&gt; <small>"));
     assert!(rt; !has_part(&out, "<script"));
     // The rule has no name.
-    assert!(rt; has_part(&out, "<h3>Rule 1 <small>33333333-3333-4333-8333-333333333333</small></h3>"));
+    assert!(rt;
+        has_part(
+            &out,
+            "<h3>Rule 1 <small>33333333-3333-4333-8333-333333333333</small></h3>"
+        )
+    );
     assert!(rt; has_part(&out, "</small>, rule 1. Violated in 4 of"));
     // Two samples at 01:00, as that hour is shown twice: by the clock from 01:00 to 02:00.
     assert!(rt; has_part(&out, "height=\"12\" x=\"60\" width=\"60\"/>"));

@@ -213,7 +213,8 @@ fn since_when_a_rule_is_violated(rt: HostRuntime) -> Result<(), AllocError> {
         2026-11-01T00:30:00-04:00 or before.</p>\n";
     assert!(rt; has_part(&page, parked));
     // The other one was violated in the sample before the last.
-    let cap = "At worst 5 of at most 4: 1 too many.</p>\n<p>Last violated, whenever the rule was open, from \
+    let cap =
+        "At worst 5 of at most 4: 1 too many.</p>\n<p>Last violated, whenever the rule was open, from \
         2026-11-01T01:00:00-04:00 to 2026-11-01T01:00:00-04:00; it was kept since.</p>\n<table>";
     assert!(rt; has_part(&page, cap));
     // It began with the report's second moment: so it wasn't violated before.
@@ -235,7 +236,8 @@ fn until_when_a_closed_rule_was_violated(rt: HostRuntime) -> Result<(), AllocErr
     push_sample(&mut samples, AUTUMN, 4, 0, Status::Violated, 5)?;
     push_sample(&mut samples, AUTUMN, 5, 0, Status::Inactive, 0)?;
     let page = section(alloc, half_hours(AUTUMN, 0, 5), &samples)?;
-    let cap = "Violated in 3 of 4 samples in which it was open (6 in all). At worst 6 of at most 4: 2 too many.</p>\n\
+    let cap =
+        "Violated in 3 of 4 samples in which it was open (6 in all). At worst 6 of at most 4: 2 too many.</p>\n\
         <p>Violated whenever the rule was open from 2026-11-01T01:00:00-04:00 to 2026-11-01T01:00:00-05:00, \
         the last sample in which it was open.</p>\n<table>";
     assert!(rt; has_part(&page, cap));
