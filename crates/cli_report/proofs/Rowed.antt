@@ -3,14 +3,16 @@ use Rattle.std.proofs.Common.{◌≡◌, ◌<◌, ℕ, List, [], ◌∷◌, ◌+
 use Rattle.mds_match.specs.Zone.{ZoneKind}
 use Rattle.mds_policy.specs.Policy.{Policy}
 use Rattle.journal_samples.specs.declared.sample.RuleSample.{RuleSample}
-use Rattle.cli_report.specs.Cells.{Cell, IsCell, IsLater, IsRow, IsText}
+use Rattle.cli_report.specs.Cells.{Cell, IsCell, IsLater, IsRow, IsText, cell_view}
 use Rattle.cli_report.specs.Csv.{cell_text}
 use Rattle.cli_report.specs.Days.{IsOrdered, day_sample}
 use Rattle.cli_report.specs.Names.{Label, label_of}
 use Rattle.cli_report.specs.Rows.{IsDays, IsSummary, Operator, day_cells, day_row, tally_of}
 use Rattle.cli_report.specs.Texts.{Appends, Spells}
+use Rattle.cli_report.specs.declared.cell.CellValue as program
 use Rattle.cli_report.specs.declared.days.DaySample.{DaySample}
 use Rattle.cli_report.specs.declared.summary.Tally.{Tally}
+use Rattle.cli_report.proofs.Spelled.{spelled_map}
 
 pub cell_made : (zone : ZoneKind) (c : Cell) (plain bytes old new : List ℕ) → IsText zone c plain → bytes ≡ plain → new ≡ old ++ cell_text bytes
     → Appends (IsCell zone c) old new
@@ -23,12 +25,13 @@ unfolding IsLater
 later_made zone c old mid new comma made =
     (44 ∷ made.0, (made.0, made.1, refl), made.2 ∙ ap (λ s. s ++ made.0) comma ∙ append_assoc old (44 ∷ []) made.0)
 
-pub row_made : (zone : ZoneKind) (first : Cell) (others : List Cell) (old one all new : List ℕ) → Appends (IsCell zone first) old one
-    → Appends (Spells (IsLater zone) others) one all → new ≡ all ++ 13 ∷ 10 ∷ [] → Appends (IsRow zone (first ∷ others)) old new
+pub row_made : (zone : ZoneKind) (first : Cell) (others : List program.CellValue) (old one all new : List ℕ) → Appends (IsCell zone first) old one
+    → Appends (Spells (λ c. IsLater zone (cell_view c)) others) one all → new ≡ all ++ 13 ∷ 10 ∷ []
+    → Appends (IsRow zone (first ∷ map cell_view others)) old new
 unfolding IsRow
 row_made zone first others old one all new begun more made = (
   begun.0 ++ more.0 ++ 13 ∷ 10 ∷ [],
-  (begun.0, more.0, begun.1, more.1, refl),
+  (begun.0, more.0, begun.1, spelled_map (IsLater zone) cell_view others more.0 more.1, refl),
   made
       ∙ ap (λ s. s ++ 13 ∷ 10 ∷ []) (more.2 ∙ ap (λ s. s ++ more.0) begun.2 ∙ append_assoc old begun.0 more.0)
       ∙ append_assoc old (begun.0 ++ more.0) (13 ∷ 10 ∷ []),

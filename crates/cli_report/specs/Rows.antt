@@ -9,11 +9,10 @@ use Rattle.mds_verdict.specs.Verdict.{status_name}
 use Rattle.journal_samples.specs.declared.sample.RuleSample.{RuleSample}
 use Rattle.cli_report.specs.Cells.{Cell, text, identifier, number, number_if, utc, local, day, IsRow}
 use Rattle.cli_report.specs.Days.{IsOrdered, day_sample, greatest_measure, grouped, least_measure, longest, open_ones, violations}
-use Rattle.cli_report.specs.Names.{Label, label_of, label_view}
+use Rattle.cli_report.specs.Names.{Label, label_of}
 use Rattle.cli_report.specs.Texts.{Spells}
 use Rattle.cli_report.specs.declared.days.DaySample.{DaySample}
 use Rattle.cli_report.specs.declared.reported.ReportedOperator as program
-use Rattle.cli_report.specs.declared.rows.RowSubject.{RowSubject}
 use Rattle.cli_report.specs.declared.summary.Tally.{Tally}
 
 -- an operator's identifier and name
@@ -25,16 +24,9 @@ abbrev pub operator_view : program.ReportedOperator → Operator
 operator_view o = record { id = o.id; name = o.name.now }
 
 -- which rule of which policy of an operator a row is about
-abbrev pub named_cells : Operator → Label → List ℕ → ℕ → List ℕ → List Cell
-named_cells o label policy place rule =
-    text o.name ∷ identifier policy ∷ text label.policy ∷ number place ∷ identifier rule ∷ text label.name ∷ []
-
 abbrev pub rule_cells : Operator → Label → List ℕ → ℕ → List ℕ → List Cell
-rule_cells o label policy place rule = identifier o.id ∷ named_cells o label policy place rule
-
--- the cells behind the operator's identifier
-abbrev pub subject_cells : RowSubject → List Cell
-subject_cells s = named_cells (operator_view s.operator) (label_view s.label) s.policy s.number s.rule
+rule_cells o label policy place rule =
+    identifier o.id ∷ text o.name ∷ identifier policy ∷ text label.policy ∷ number place ∷ identifier rule ∷ text label.name ∷ []
 
 abbrev pub minimum : Label → Option ℕ
 minimum label = option_and_then (λ rule. rule.bounds.minimum) label.rule

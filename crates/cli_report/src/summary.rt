@@ -14,7 +14,7 @@ use crate::days::{
 };
 use crate::names::{PolicyTree, RuleLabel, label_of, trees_in};
 use crate::reported::ReportedOperator;
-use crate::rows::{RowSubject, push_row};
+use crate::rows::push_row;
 use mds_match::Zone;
 use mds_text::Moment;
 use std::alloc::{AllocError, Global};
@@ -102,14 +102,13 @@ fn push_tally<'x>(
         (label_view label.now) first.now tally.now))
         out.old.items out.new.items) }
 {
-    let subject = RowSubject {
-        operator: *operator,
-        label: *label,
-        policy: first.policy,
-        number: first.number,
-        rule: first.rule,
-    };
-    let behind = [
+    let others = [
+        CellValue::Text(operator.name),
+        CellValue::Id(first.policy),
+        CellValue::Text(label.policy),
+        CellValue::Number(first.number as u64),
+        CellValue::Id(first.rule),
+        CellValue::Text(label.name),
         CellValue::Day(first.at),
         CellValue::Number(tally.samples),
         CellValue::Number(tally.violated),
@@ -121,14 +120,7 @@ fn push_tally<'x>(
         CellValue::Number(tally.greatest_measure),
         CellValue::NumberIf(tally.least_measure),
     ];
-    push_row(
-        out,
-        zone,
-        &CellValue::Id(operator.id),
-        &[],
-        &subject,
-        &behind,
-    )
+    push_row(out, zone, &CellValue::Id(operator.id), &others)
 }
 
 /// Appends the row of the samples of a rule's day.

@@ -11,7 +11,7 @@ ghost use Rattle.cli_report.specs.Texts.{Appends};
 use crate::cell::CellValue;
 use crate::names::{PolicyTree, RuleLabel, label_of, trees_in};
 use crate::reported::ReportedOperator;
-use crate::rows::{RowSubject, push_row};
+use crate::rows::push_row;
 use journal_samples::RuleSample;
 use mds_match::Zone;
 use mds_policy::Kind;
@@ -87,32 +87,22 @@ fn push_verdict<'x>(
         (label_view label.now) sample.now))
         out.old.items out.new.items) }
 {
-    let subject = RowSubject {
-        operator: *operator,
-        label: *label,
-        policy: sample.policy,
-        number: sample.number,
-        rule: sample.rule,
-    };
-    let front = [
+    let others = [
         CellValue::Local(Some(sample.at)),
         CellValue::Id(operator.id),
-    ];
-    let behind = [
+        CellValue::Text(operator.name),
+        CellValue::Id(sample.policy),
+        CellValue::Text(label.policy),
+        CellValue::Number(sample.number as u64),
+        CellValue::Id(sample.rule),
+        CellValue::Text(label.name),
         CellValue::Text(status_name(sample.status).as_bytes()),
         CellValue::Number(sample.measure),
         CellValue::Bound(minimum(label)),
         CellValue::Bound(maximum(label)),
         CellValue::Text(units(label)),
     ];
-    push_row(
-        out,
-        zone,
-        &CellValue::Utc(sample.at),
-        &front,
-        &subject,
-        &behind,
-    )
+    push_row(out, zone, &CellValue::Utc(sample.at), &others)
 }
 
 /// Appends a row for each of these samples, in their order.

@@ -2,7 +2,7 @@ use Rattle.std.proofs.Common.{subst}
 use Rattle.std.proofs.lemmas.List.{take_all}
 use Rattle.cli_report.specs.Cells.{IsLater, cell_view}
 use Rattle.cli_report.specs.Texts.{Appends, Spells}
-use Rattle.cli_report.proofs.Spelled.{one_more, spelled_map}
+use Rattle.cli_report.proofs.Spelled.{one_more}
 use Rattle.cli_report.proofs.rows.push_others.Goals as goal
 
 pub loop-cell-preserved : goal.loop-cell-preserved
@@ -13,7 +13,5 @@ loop-cell-preserved c =
 
 pub returns : goal.returns
 returns c =
-    let told =
     subst (λ cells. Appends (Spells (λ k. IsLater c.args.zone.now (cell_view k)) cells) c.args.out.now.items c.loop-cell.out.items)
-    (take_all c.loop-cell.cell-index c.args.cells.now c.loop-cell-test.false) c.loop-cell.invariant in
-    (told.0, spelled_map (IsLater c.args.zone.now) cell_view c.args.cells.now told.0 told.1, told.2)
+    (take_all c.loop-cell.cell-index c.args.cells.now c.loop-cell-test.false) c.loop-cell.invariant
