@@ -23,8 +23,11 @@ abbrev pub vehicles_text : ℕ → List ℕ
 vehicles_text n = if n == 1 then codes "1 vehicle" else decimal n ++ codes " vehicles"
 
 -- the words for a measure and the bound that it is beyond, as `33 of at least 40`, and for how far it is off
+abbrev pub worst_measure : ℕ → List ℕ
+worst_measure measure = codes " At worst " ++ decimal measure ++ codes " of "
+
 abbrev pub at_worst : ℕ → List ℕ → List ℕ
-at_worst measure bound = codes " At worst " ++ decimal measure ++ codes " of " ++ bound ++ codes ": "
+at_worst measure bound = (worst_measure measure ++ bound) ++ codes ": "
 
 abbrev pub excess_words : ℕ → List ℕ
 excess_words excess = decimal excess ++ codes " too many."

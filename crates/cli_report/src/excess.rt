@@ -2,7 +2,7 @@
 ghost use Rattle.std.specs.Prelude.{◌≡◌, ◌++◌, IfOk, string_bytes};
 ghost use Rattle.cli_report.specs.Days.{greatest_measure, least_measure};
 ghost use Rattle.cli_report.specs.Bounds.{least_text, most_text};
-ghost use Rattle.cli_report.specs.Excess.{at_once_text, at_worst, beyond, excess_text, excess_words, lack_text};
+ghost use Rattle.cli_report.specs.Excess.{at_once_text, at_worst, worst_measure, beyond, excess_text, excess_words, lack_text};
 ghost use Rattle.cli_report.specs.Excess.{lack_words, over_most, over_text, too_few, too_many, under_least, under_text};
 ghost use Rattle.cli_report.specs.Excess.{vehicles_text, words_of, worst_text};
 
@@ -47,11 +47,21 @@ fn vehicles_text(alloc: Global, number: u64) -> Result<String, AllocError>
     }
 }
 
+/// What stands in front of the bound that a measure is beyond.
+fn worst_measure(alloc: Global, measure: u64) -> Result<String, AllocError>
+    ensures { IfOk result (λ text. string_bytes text ≡ worst_measure measure) }
+{
+    format!(in alloc; " At worst {measure} of ")
+}
+
 /// What stands in front of how many vehicles are too many or too few: the measure, and the bound that it is beyond.
 fn at_worst(alloc: Global, measure: u64, bound: &str) -> Result<String, AllocError>
     ensures { IfOk result (λ text. string_bytes text ≡ at_worst measure bound.now) }
 {
-    format!(in alloc; " At worst {measure} of {bound}: ")
+    let mut text = worst_measure(alloc, measure)?;
+    text.push_str(bound)?;
+    text.push_str(": ")?;
+    Ok(text)
 }
 
 /// So many too many.

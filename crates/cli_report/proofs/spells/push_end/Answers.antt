@@ -5,11 +5,11 @@ use Rattle.cli_report.specs.Pieces.{IsWritten}
 use Rattle.cli_report.specs.Texts.{Appends}
 use Rattle.cli_report.proofs.spells.push_end.Goals as goal
 
-pub returns-in-Some : goal.returns-in-Some
-returns-in-Some c =
+pub returns-in_ok-spell-in-Some : goal.returns-in_ok-spell-in-Some
+returns-in_ok-spell-in-Some c =
     on_ok_weaker c.push_spell.result
     (λ made. subst (λ pieces. Appends (IsWritten c.args.zone.now pieces) c.args.out.now.items c.push_spell.new.out.items)
-    (ap spell_pieces c.in_ok-spell.ensures ∙ ap (end_with c.args.span.now c.args.samples.now) c.in-Some.ensures) made)
+    (ap spell_pieces c.in_ok-spell-in-Some.ensures ∙ ap (end_with c.args.span.now c.args.samples.now) c.in-Some.ensures) made)
     c.push_spell.ensures
 
 pub returns-in-None : goal.returns-in-None
