@@ -34,17 +34,17 @@ from datetime import datetime, timezone
 import records
 from journals import REPLAY
 from kept import City, Tried, ended, replayed, split
-from report_page import DAY_LINE, MARK, OPEN, RULE, Page, bounds_of, marks_of, minutes_are_told, page_faults, since_of, worst_of
+from report_page import DAY_LINE, MARK, OPEN, RULE, Page, bounds_of, counts_of, marks_of, minutes_are_told, page_faults, since_of, worst_of
 from wire import Closed, identifier
 
 AUTHOR, ALFA, BRAVO = "city", "alfa", "bravo"
 ALFA_ID, BRAVO_ID, FURTHER_ID = (identifier(9, it) for it in (0xA1, 0xB1, 0xC1))
 IDS = {ALFA: ALFA_ID, BRAVO: BRAVO_ID}
 NEW_YORK = "EST5EDT,M3.2.0,M11.1.0"
-# 2026-03-07, 2026-10-31 and 2026-06-12 at midnight in New York, in milliseconds since the Unix epoch; behind the first two the clocks are
-# set forward on 8 March at 07:00 UTC, and back on 1 November at 06:00 UTC.
-SPRING, AUTUMN, SUMMER = 1_772_859_600_000, 1_793_419_200_000, 1_781_236_800_000
-FORWARD, BACK = 1_772_953_200_000, 1_793_512_800_000
+# 2025-03-08, 2025-11-01 and 2025-06-12 at midnight in New York, in milliseconds since the Unix epoch; behind the first two the clocks are
+# set forward on 9 March at 07:00 UTC, and back on 2 November at 06:00 UTC. All are over, since a report tells nothing of what is to come.
+SPRING, AUTUMN, SUMMER = 1_741_410_000_000, 1_761_969_600_000, 1_749_700_800_000
+FORWARD, BACK = 1_741_503_600_000, 1_762_063_200_000
 MINUTE, HOUR, DAY = 60_000, 3_600_000, 86_400_000
 EVERY = 30  # minutes
 STEPS, DEVICES = 90, 4
@@ -260,7 +260,7 @@ def moment_text(at):
 
 
 def ahead_of(at):
-    """How many hours New York's clocks are ahead of UTC's at a moment of 2026."""
+    """How many hours New York's clocks are ahead of UTC's at a moment of 2025."""
     return -4 if FORWARD <= at < BACK else -5
 
 
@@ -463,16 +463,18 @@ def is_the_same_again(made):
 
 
 def marks_follow_the_clock(made):
-    """Each mark of a day in report.html begins and ends where the clock says, also behind a change of the clocks."""
+    """Each mark of a day in report.html begins and ends where the clock says, also behind a change of the clocks; and behind a day's line
+    stands in how many samples the rule was violated, of those in which it was open."""
     days = collections.defaultdict(list)
     for row in rows_of(made.whole["verdicts.csv"], COLUMNS):
         days[row[2], row[4], row[6], row[1][:10]].append(row)
     wanted = collections.Counter()
     for (*_, day), rows in days.items():
-        wanted[day, marks := marks_of(rows, EVERY)] += 1
+        judged = [it[9] for it in rows if it[9] in OPEN]
+        wanted[day, marks := marks_of(rows, EVERY), f"{judged.count('violated')} of {len(judged)}"] += 1
         yield from minutes_are_told(day, rows, marks, EVERY)
     lines = DAY_LINE.findall(made.whole["report.html"].decode())
-    found = collections.Counter((day, tuple((it, int(x), int(width)) for it, x, width in MARK.findall(text))) for day, text in lines)
+    found = collections.Counter((day, tuple((it, int(x), int(w)) for it, x, w in MARK.findall(text)), told) for day, text, told in lines)
     for line_ in found - wanted:
         yield f"a day is drawn that isn't in verdicts.csv: {line_}"
     for line_ in wanted - found:
@@ -491,18 +493,19 @@ def rules_are_told(made):
         for (whose, policy, number), rows in sorted(rules.items()):
             if whose == IDS[token]:
                 rule, violated = made.documents[policy]["rules"][number], [int(row[10]) for row in rows if row[9] == "violated"]
-                told = f"Violated in {len(violated)} of {len(rows)} samples.{''.join(worst_of(rule, violated))}"
-                wanted.append((len(violated), (rows[0][7], policy, str(number), bounds_of(rule), told, since_of(rows, *ends))))
+                told = f"{counts_of(rows)}{''.join(worst_of(rule, violated))}"
+                wanted.append((len(violated), (rows[0][7], policy, str(number + 1), bounds_of(rule), told, since_of(rows, *ends))))
         wanted = [it for _, it in sorted(wanted, key=lambda it: -it[0])]
         yield from differing(f"{token} on the page", RULE.findall(section), wanted)
 
 
+UNTITLED = "Rules for shared vehicles (no city is named: the configuration has no page.title)"
 HEAD_ROW = re.compile(r"<tr><th>([^<]*)</th><td>([^<]*)</td></tr>\n")
 
 
 def heads_are_told(program, replay):
-    """The page begins with the city's title, if it has one, its zone, the first and last moment, how far samples are apart, and when and by
-    which program it was made."""
+    """The page begins with the city's title, or that it has none, its zone, the first and last moment, how far samples are apart, and when and
+    by which program it was made."""
     with tempfile.TemporaryDirectory(prefix="report-") as room:
         for number, (page, zone) in enumerate((({"page": {"title": "River & City"}}, "America/New_York"), ({}, NEW_YORK), ({"page": 1}, "Z"))):
             if "/" in zone and not os.path.exists(os.path.join("/usr/share/zoneinfo", zone)):
@@ -523,9 +526,42 @@ def heads_are_told(program, replay):
             first, last = (it if zone != "Z" else moment_text(at).replace("Z", "+00:00") for at, it in
                            ((at, local_text(at)) for at in (SUMMER, SUMMER + 50 * MINUTE)))
             wanted = {"First sample": first, "Last sample": last, "Sampled every": "25 minutes", "By": version}
-            wanted["Time zone"] = f"{zone} (EST5EDT,M3.2.0,M11.1.0)" if "/" in zone else zone
-            if found != wanted | ({"City": "River &amp; City"} if number == 0 else {}):
+            words = "UTC" if zone == "Z" else "UTC-05:00, in summer UTC-04:00"
+            wanted["Time zone"] = f"{zone} ({words})" if "/" in zone else words
+            wanted["City"] = UNTITLED if number else "River &amp; City"
+            if found != wanted:
                 yield f"the page begins with {found}, and not with {wanted}"
+
+
+def nothing_is_told_of_what_is_to_come(program, replay):
+    """A report that is asked for up to a moment that is still to come ends when it is made, and says so; none begins then. One up to a moment
+    that is over says nothing of it."""
+    with tempfile.TemporaryDirectory(prefix="report-") as room:
+        city = Journal(program, room, configuration(), payloads(accepted(replay, configuration(), hostile_city(("cap", "rule")))))
+        begun = int(time.time() * 1000)
+        first, last = begun - 2 * HOUR, begun + DAY
+        status, _, err = city.report(first, last, "--operator", ALFA_ID)
+        done, files = int(time.time() * 1000), city.files()
+        if status or err.decode().splitlines()[0] != f"ruffletuff: the moment of --to is still to come, so the report ends now: {last}":
+            yield f"report ends with {status, err}"
+        found = [it[0] for it in rows_of(files["verdicts.csv"], COLUMNS)]
+        least, most = (len(range(first, it, 5 * MINUTE)) for it in (begun, done))
+        if not least <= len(found) <= most or found != [moment_text(first + it * 5 * MINUTE) for it in range(len(found))]:
+            yield f"of {least} to {most} moments are told {found}"
+        told = dict(HEAD_ROW.findall(files["report.html"].decode()))
+        stated, ended_at = told["Asked for up to"].partition(", "), rows_of(files["verdicts.csv"], COLUMNS)[-1][1]
+        if round(datetime.fromisoformat(stated[0]).timestamp() * 1000) != last:
+            yield f"the page says that it was asked for up to {stated}"
+        if stated[2] != "which was still to come: the report ends when it was made" or told["Last sample"] != ended_at:
+            yield f"the page begins with {told}"
+        for name in NAMES:
+            os.remove(os.path.join(city.out, name))
+        said = f"ruffletuff: the moment of --to is still to come, so the report ends now: {last}\n"
+        said += f"ruffletuff: the moment of --to isn't later than that of --from: {last}\n"
+        yield from is_refused(city, 2, said, times=(begun + HOUR, last))
+        status, _, err = city.report(SUMMER, SUMMER + HOUR)
+        if status or b"to come" in err or "Asked for up to" in city.files()["report.html"].decode():
+            yield f"of a report up to a moment that is over is said {err}"
 
 
 # --- Names ---------------------------------------------------------------------------------------------------------
@@ -760,6 +796,7 @@ OF_A_CITY = (
 )
 FURTHER = (
     heads_are_told,
+    nothing_is_told_of_what_is_to_come,
     hostile_names,
     operators_stand_in_order,
     arguments_are_refused,

@@ -3,7 +3,7 @@ use Rattle.std.proofs.Common.{◌≡◌, ◌<◌, ◌-◌, ℕ, List, [], ◌∷
 use Rattle.std.specs.List.{flat_map}
 use Rattle.std.proofs.lemmas.List.{append-nil}
 use Rattle.mds_match.specs.Zone.{ZoneKind}
-use Rattle.cli_report.specs.Days.{grouped_by, violations}
+use Rattle.cli_report.specs.Days.{grouped_by, open_ones, violations}
 use Rattle.cli_report.specs.Lines.{last_in, mark_of, mark_text, marks}
 use Rattle.cli_report.specs.Page.{day_pieces, line_pieces}
 use Rattle.cli_report.specs.declared.days.DaySample.{DaySample}
@@ -38,12 +38,12 @@ mark_is zone every (s ∷ samples) first last some is_first is_last =
     ∙ ap (mark_text zone every s) (last_is s samples last (is_last ∙ ap (λ n. get_or (s ∷ samples) n last) end))
 
 -- the line of a day by its first sample
-pub line_is : (zone : ZoneKind) (every : ℕ) (samples : List DaySample) (first : DaySample) (drawn : List ℕ) (violated count : ℕ)
+pub line_is : (zone : ZoneKind) (every : ℕ) (samples : List DaySample) (first : DaySample) (drawn : List ℕ) (violated judged : ℕ)
     → 0 < length samples → first ≡ get_or samples 0 first → drawn ≡ marks zone every samples → violated ≡ length (violations samples)
-    → count ≡ length samples → line_pieces first.at drawn violated count ≡ day_pieces zone every samples
-line_is zone every [] first drawn violated count some is is_drawn is_violated is_count = absurd (omega (arith, some))
-line_is zone every (s ∷ samples) first drawn violated count some is is_drawn is_violated is_count =
-    ap (λ k. line_pieces k.at drawn violated count) is
-    ∙ ap (λ d. line_pieces s.at d violated count) is_drawn
-    ∙ ap (λ n. line_pieces s.at (marks zone every (s ∷ samples)) n count) is_violated
-    ∙ ap (line_pieces s.at (marks zone every (s ∷ samples)) (length (violations (s ∷ samples)))) is_count
+    → judged ≡ length (open_ones samples) → line_pieces first.at drawn violated judged ≡ day_pieces zone every samples
+line_is zone every [] first drawn violated judged some is is_drawn is_violated is_judged = absurd (omega (arith, some))
+line_is zone every (s ∷ samples) first drawn violated judged some is is_drawn is_violated is_judged =
+    ap (λ k. line_pieces k.at drawn violated judged) is
+    ∙ ap (λ d. line_pieces s.at d violated judged) is_drawn
+    ∙ ap (λ n. line_pieces s.at (marks zone every (s ∷ samples)) n judged) is_violated
+    ∙ ap (line_pieces s.at (marks zone every (s ∷ samples)) (length (violations (s ∷ samples)))) is_judged

@@ -1,5 +1,5 @@
 -- Cells and rows of a report, and how they are written (RFC 4180, section 2).
-use Rattle.std.specs.Prelude.{◌≡◌, ℕ, ◌/◌, List, [], ◌∷◌, ◌++◌, Option, Some, None}
+use Rattle.std.specs.Prelude.{◌≡◌, ℕ, ◌+◌, ◌/◌, List, [], ◌∷◌, ◌++◌, Option, Some, None}
 use Rattle.std.specs.Fmt.{decimal}
 use Rattle.uuid.specs.Text.{hyphenated_text, lower}
 use Rattle.mds_match.specs.Zone.{ZoneKind}
@@ -26,6 +26,7 @@ abbrev pub cell_view : program.CellValue → Cell
 cell_view (cell.Text bytes) = text bytes.now
 cell_view (cell.Id id) = identifier id
 cell_view (cell.Number n) = number n
+cell_view (cell.Place n) = number (n + 1)
 cell_view (cell.Bound limit) = number_if limit
 cell_view (cell.NumberIf n) = number_if n
 cell_view (cell.Utc t) = utc t

@@ -4,6 +4,7 @@ use Rattle.std.specs.Fmt.{decimal}
 use Rattle.mds_policy.specs.declared.rule.Bounds.{Bounds}
 use Rattle.mds_policy.specs.declared.rule.Kind.{Kind}
 use Rattle.mds_policy.specs.declared.rule.Kind.TheVariants.{Count, Time, Other}
+use Rattle.cli_report.specs.Bounds.{least_text, most_text}
 use Rattle.cli_report.specs.Days.{greatest_measure, least_measure}
 use Rattle.cli_report.specs.declared.days.DaySample.{DaySample}
 
@@ -12,20 +13,21 @@ abbrev pub beyond : Bool → ℕ → ℕ
 beyond inclusive n = if inclusive then n else n + 1
 
 -- how many vehicles more than a maximum allows, and how many fewer than a minimum asks for
-abbrev pub too_many : Bool → Option ℕ → ℕ → ℕ
-too_many inclusive None measure = 0
-too_many inclusive (Some most) measure = beyond inclusive measure - most
+abbrev pub too_many : Bool → (most measure : ℕ) → ℕ
+too_many inclusive most measure = beyond inclusive measure - most
 
-abbrev pub too_few : Bool → Option ℕ → ℕ → ℕ
-too_few inclusive None measure = 0
-too_few inclusive (Some least) measure = beyond inclusive least - measure
+abbrev pub too_few : Bool → (least measure : ℕ) → ℕ
+too_few inclusive least measure = beyond inclusive least - measure
 
 abbrev pub vehicles_text : ℕ → List ℕ
 vehicles_text n = if n == 1 then codes "1 vehicle" else decimal n ++ codes " vehicles"
 
--- the words for the greatest measure, where it is too great, and for the least one, where it is too small
-abbrev pub at_worst : ℕ → List ℕ
-at_worst measure = codes " At worst " ++ vehicles_text measure ++ codes ": "
+-- the words for a measure and the bound that it is beyond, as `33 of at least 40`, and for how far it is off
+abbrev pub worst_measure : ℕ → List ℕ
+worst_measure measure = codes " At worst " ++ decimal measure ++ codes " of "
+
+abbrev pub at_worst : ℕ → List ℕ → List ℕ
+at_worst measure bound = (worst_measure measure ++ bound) ++ codes ": "
 
 abbrev pub excess_words : ℕ → List ℕ
 excess_words excess = decimal excess ++ codes " too many."
@@ -33,18 +35,27 @@ excess_words excess = decimal excess ++ codes " too many."
 abbrev pub lack_words : ℕ → List ℕ
 lack_words lack = decimal lack ++ codes " too few."
 
-abbrev pub excess_text : (measure excess : ℕ) → List ℕ
-excess_text measure excess = if excess == 0 then [] else at_worst measure ++ excess_words excess
+abbrev pub excess_text : ℕ → List ℕ → (excess : ℕ) → List ℕ
+excess_text measure bound excess = if excess == 0 then [] else at_worst measure bound ++ excess_words excess
 
-abbrev pub lack_text : (measure lack : ℕ) → List ℕ
-lack_text measure lack = if lack == 0 then [] else at_worst measure ++ lack_words lack
+abbrev pub lack_text : ℕ → List ℕ → (lack : ℕ) → List ℕ
+lack_text measure bound lack = if lack == 0 then [] else at_worst measure bound ++ lack_words lack
+
+-- of the greatest measure, where it is too great, and of the least one, where it is too small
+abbrev pub over_most : Bool → Option ℕ → ℕ → List ℕ
+over_most inclusive None measure = []
+over_most inclusive (Some most) measure = excess_text measure (most_text inclusive most) (too_many inclusive most measure)
+
+abbrev pub under_least : Bool → Option ℕ → ℕ → List ℕ
+under_least inclusive None measure = []
+under_least inclusive (Some least) measure = lack_text measure (least_text inclusive least) (too_few inclusive least measure)
 
 abbrev pub over_text : Bounds → ℕ → List ℕ
-over_text b measure = excess_text measure (too_many b.inclusive_maximum b.maximum measure)
+over_text b measure = over_most b.inclusive_maximum b.maximum measure
 
 abbrev pub under_text : Bounds → Option ℕ → List ℕ
 under_text b None = []
-under_text b (Some measure) = lack_text measure (too_few b.inclusive_minimum b.minimum measure)
+under_text b (Some measure) = under_least b.inclusive_minimum b.minimum measure
 
 -- a time rule's measure is how many vehicles violate it
 abbrev pub at_once_text : ℕ → List ℕ

@@ -1,4 +1,6 @@
+pub mod Bounds
 pub mod Cells
+pub mod Counts
 pub mod Csv
 pub mod Days
 pub mod Excess

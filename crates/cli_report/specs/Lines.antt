@@ -1,5 +1,5 @@
 -- A rule's day as a line of 1,440 units, one for each minute that the clock shows from midnight on, and its marks.
-use Rattle.std.specs.Prelude.{ℕ, ◌+◌, ◌-◌, ◌/◌, ◌%◌, ◌==◌, List, [], ◌∷◌, ◌++◌, Bool, true, false, not, ◌&&◌, nat_le, max, min, codes, if◌then◌else◌}
+use Rattle.std.specs.Prelude.{ℕ, ◌+◌, ◌-◌, ◌/◌, ◌%◌, ◌==◌, List, [], ◌∷◌, ◌++◌, Bool, true, false, not, ◌&&◌, max, min, codes, if◌then◌else◌}
 use Rattle.std.specs.Fmt.{decimal}
 use Rattle.std.specs.List.{flat_map}
 use Rattle.mds_match.specs.Zone.{ZoneKind}
@@ -19,9 +19,10 @@ abbrev pub are_alike : DaySample → DaySample → Bool
 are_alike a b = is_same a.violated b.violated && is_same a.judged b.judged
 
 -- A mark goes on from a sample to another: they are drawn alike, the other is the next moment's, so many milliseconds
--- later, and the clock wasn't set back in between.
+-- later, and the clock went as far, so that it wasn't set in between.
 abbrev pub goes_on : ZoneKind → ℕ → DaySample → DaySample → Bool
-goes_on zone every a b = are_alike a b && (b.at - a.at == every) && nat_le (minute_at zone a.at) (minute_at zone b.at)
+goes_on zone every a b =
+    are_alike a b && (b.at - a.at == every) && (minute_at zone b.at == minute_at zone a.at + every / 60000)
 
 -- A sample stands for the time up to the next one, at most up to midnight. So a mark is from what the clock shows at its
 -- first sample to what it shows at its last one and so much more; it is a unit wide at least.

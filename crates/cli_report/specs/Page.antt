@@ -1,46 +1,69 @@
 -- The page: its head, and an operator's section with its rules, the most often violated one first.
-use Rattle.std.specs.Prelude.{ℕ, ◌/◌, ◌==◌, List, [], ◌∷◌, ◌++◌, Bool, true, false, codes, length, map, if◌then◌else◌, Option, Some, None}
-use Rattle.std.specs.Fmt.{decimal}
+use Rattle.std.specs.Prelude.{ℕ, ◌+◌, ◌/◌, ◌==◌, List, [], ◌∷◌, ◌++◌, Bool, true, false, codes, length, map, if◌then◌else◌, Option, Some, None}
 use Rattle.std.specs.List.{flat_map}
 use Rattle.mds_match.specs.Zone.{ZoneKind}
 use Rattle.mds_policy.specs.Policy.{Policy, Rule}
-use Rattle.mds_policy.specs.declared.rule.Bounds.{Bounds}
-use Rattle.mds_policy.specs.declared.rule.Kind.{Kind}
-use Rattle.mds_policy.specs.declared.rule.Kind.TheVariants.{Count, Time, Other}
-use Rattle.mds_policy.specs.declared.rule.TimeUnit.TheVariants.{Seconds, Minutes, Hours, Days}
 use Rattle.journal_samples.specs.declared.sample.RuleSample.{RuleSample}
-use Rattle.cli_report.specs.Cells.{text, identifier, number, local, day}
-use Rattle.cli_report.specs.Days.{IsOrdered, day_sample, grouped, violations}
+use Rattle.cli_report.specs.Bounds.{bounds_text}
+use Rattle.cli_report.specs.Cells.{Cell, text, identifier, number, local, day}
+use Rattle.cli_report.specs.Counts.{all_behind, counts_of}
+use Rattle.cli_report.specs.Days.{IsOrdered, day_sample, grouped, open_ones, violations}
 use Rattle.cli_report.specs.Excess.{worst_text}
 use Rattle.cli_report.specs.Lines.{marks}
 use Rattle.cli_report.specs.Names.{Label, label_of}
 use Rattle.cli_report.specs.Pieces.{IsWritten, Piece, markup, value}
 use Rattle.cli_report.specs.Ranks.{AreRanked, samples_of}
 use Rattle.cli_report.specs.Rows.{Operator}
-use Rattle.cli_report.specs.Since.{is_violated_at, may_be_before, violated_since}
+use Rattle.cli_report.specs.Since.{last_violated, spell_of}
+use Rattle.cli_report.specs.declared.counts.SampleCounts.{SampleCounts}
 use Rattle.cli_report.specs.declared.days.DaySample.{DaySample}
 use Rattle.cli_report.specs.declared.page.TheConstants.{HEAD, LEGEND}
 use Rattle.cli_report.specs.declared.ranking.RuleSpan.{RuleSpan}
 use Rattle.cli_report.specs.declared.reported.ReportHead as lent
 use Rattle.cli_report.specs.declared.reported.ReportSpan.{ReportSpan}
+use Rattle.cli_report.specs.declared.since.Spell.{Spell}
+use Rattle.cli_report.specs.declared.since.SpellEnd.{SpellEnd}
+use Rattle.cli_report.specs.declared.since.SpellEnd.TheVariants.{Present, Closed, Over}
 
--- what a page says of its report: the city's title, which may be empty, the zone, when it was made, where that is known, by
--- which program, and its first and last moment, and how many milliseconds moments are apart
+-- what a page says of its report: the city's title, which may be empty, the zone, when it was made, where that is known, up
+-- to when it was asked for, where that was still to come, by which program, and its first and last moment, and how many
+-- milliseconds moments are apart
 pub record Head : Type 0 where
   pub city : List ℕ
   pub zone : List ℕ
   pub made : Option ℕ
+  pub to_come : Option ℕ
   pub program : List ℕ
   pub span : ReportSpan
 
 abbrev pub head_view : lent.ReportHead → Head
-head_view h = record { city = h.city.now; zone = h.zone.now; made = h.made; program = h.program.now; span = h.span }
+head_view h =
+    record {
+      city = h.city.now;
+      zone = h.zone.now;
+      made = h.made;
+      to_come = h.to_come;
+      program = h.program.now;
+      span = h.span;
+    }
 
--- nothing where a city has no title
+-- a city without a title goes by what the page for people calls itself then
+abbrev pub title_text : List ℕ → List ℕ
+title_text title =
+    if length title == 0
+    then codes "Rules for shared vehicles (no city is named: the configuration has no page.title)"
+    else title
+
 abbrev pub city_pieces : List ℕ → List Piece
 city_pieces title =
-    if length title == 0 then []
-    else markup (codes "<tr><th>City</th><td>") ∷ value (text title) ∷ markup (codes "</td></tr>\n") ∷ []
+    markup (codes "<tr><th>City</th><td>") ∷ value (text (title_text title)) ∷ markup (codes "</td></tr>\n") ∷ []
+
+-- nothing where a report was asked for up to a moment that was over
+abbrev pub to_come_pieces : Option ℕ → List Piece
+to_come_pieces None = []
+to_come_pieces (Some t) =
+    markup (codes "<tr><th>Asked for up to</th><td>") ∷ value (local (Some t))
+    ∷ markup (codes ", which was still to come: the report ends when it was made</td></tr>\n") ∷ []
 
 abbrev pub minutes_text : ℕ → List ℕ
 minutes_text n = if n == 1 then codes " minute" else codes " minutes"
@@ -61,34 +84,7 @@ moments_pieces h = moments_with h (minutes_text (h.span.every / 60000))
 
 -- what a page begins with, from its style to what its signs mean
 abbrev pub head_pieces : Head → List Piece
-head_pieces h = markup HEAD.now ∷ city_pieces h.city ++ moments_pieces h
-
--- the words for a bound, whether or not it is within itself
-abbrev pub least_text : Bool → ℕ → List ℕ
-least_text true n = codes "at least " ++ decimal n
-least_text false n = codes "more than " ++ decimal n
-
-abbrev pub most_text : Bool → ℕ → List ℕ
-most_text true n = codes "at most " ++ decimal n
-most_text false n = codes "fewer than " ++ decimal n
-
-abbrev pub limits_text : Bounds → Option ℕ → Option ℕ → List ℕ
-limits_text b None None = codes "any number of"
-limits_text b (Some least) None = least_text b.inclusive_minimum least
-limits_text b None (Some most) = most_text b.inclusive_maximum most
-limits_text b (Some least) (Some most) =
-    least_text b.inclusive_minimum least ++ codes " and " ++ most_text b.inclusive_maximum most
-
-abbrev pub unit_text : Kind → List ℕ
-unit_text Count = codes " vehicles"
-unit_text (Time Seconds) = codes " seconds in one state"
-unit_text (Time Minutes) = codes " minutes in one state"
-unit_text (Time Hours) = codes " hours in one state"
-unit_text (Time Days) = codes " days in one state"
-unit_text Other = codes " (not evaluated)"
-
-abbrev pub bounds_text : Kind → Bounds → List ℕ
-bounds_text kind b = limits_text b b.minimum b.maximum ++ unit_text kind
+head_pieces h = markup HEAD.now ∷ city_pieces h.city ++ to_come_pieces h.to_come ++ moments_pieces h
 
 -- what stands behind a rule's number: its bounds, and by how much violated samples are outside of them
 abbrev pub limits_behind : Option Rule → List ℕ
@@ -99,50 +95,85 @@ abbrev pub worst_behind : Option Rule → List DaySample → List ℕ
 worst_behind None violated = []
 worst_behind (Some rule) violated = worst_text rule.kind rule.bounds violated
 
+-- a rule goes by its name, or else by its number in its policy, here counted from 1
+abbrev pub heading_text : (name : List ℕ) → List ℕ
+heading_text name = if length name == 0 then codes "Rule " else []
+
+abbrev pub heading : (name : List ℕ) → ℕ → Cell
+heading name place = if length name == 0 then number (place + 1) else text name
+
 -- a rule's titles, by its names and identifiers
 abbrev pub title_pieces : Label → DaySample → List Piece
 title_pieces label s =
-    markup (codes "<h3>") ∷ value (text label.name) ∷ markup (codes " <small>") ∷ value (identifier s.rule)
+    markup (codes "<h3>") ∷ markup (heading_text label.name) ∷ value (heading label.name s.number) ∷ markup (codes " <small>")
+    ∷ value (identifier s.rule)
     ∷ markup (codes "</small></h3>\n<p>Policy ") ∷ value (text label.policy) ∷ markup (codes " <small>") ∷ value (identifier s.policy)
-    ∷ markup (codes "</small>, rule ") ∷ value (number s.number) ∷ []
+    ∷ markup (codes "</small>, rule ") ∷ value (number (s.number + 1)) ∷ []
 
 -- its bounds, how often it was violated, and by how much
-abbrev pub counts_pieces : (limits worst : List ℕ) (violated count : ℕ) → List Piece
-counts_pieces limits worst violated count =
-    markup limits ∷ markup (codes ". Violated in ") ∷ value (number violated) ∷ markup (codes " of ") ∷ value (number count)
-    ∷ markup (codes " samples.") ∷ markup worst ∷ markup (codes "</p>\n") ∷ []
+abbrev pub counts_pieces : (limits worst all : List ℕ) → SampleCounts → List Piece
+counts_pieces limits worst all counts =
+    markup limits ∷ markup (codes ". Violated in ") ∷ value (number counts.violated) ∷ markup (codes " of ")
+    ∷ value (number counts.judged) ∷ markup (codes " samples") ∷ markup all ∷ markup (codes ".") ∷ markup worst
+    ∷ markup (codes "</p>\n") ∷ []
 
 abbrev pub judgment_pieces : Option Rule → List DaySample → List Piece
 judgment_pieces rule samples =
-    counts_pieces (limits_behind rule) (worst_behind rule (violations samples)) (length (violations samples)) (length samples)
+    counts_pieces (limits_behind rule) (worst_behind rule (violations samples)) (all_behind (counts_of samples)) (counts_of samples)
 
--- where it is violated at the report's last moment, since when it is
+-- since when it was violated in the last spell, whenever it was open, and until when
 abbrev pub before_text : Bool → List ℕ
 before_text true = codes " or before"
 before_text false = []
 
-abbrev pub since_pieces : Option ℕ → Bool → List Piece
-since_pieces since before =
-    markup (codes "<p>Violated at the report's end, and whenever the rule was open since ") ∷ value (local since)
-    ∷ markup (before_text before) ∷ markup (codes ".</p>\n") ∷ []
+abbrev pub begin_text : SpellEnd → List ℕ
+begin_text Present = codes "<p>Violated at the report's end, and whenever the rule was open since "
+begin_text Closed = codes "<p>Violated whenever the rule was open from "
+begin_text Over = codes "<p>Last violated, whenever the rule was open, from "
+
+abbrev pub until_text : SpellEnd → List ℕ
+until_text Present = []
+until_text Closed = codes " to "
+until_text Over = codes " to "
+
+-- a spell that goes on has no end that is told
+abbrev pub told_at : SpellEnd → ℕ → Option ℕ
+told_at Present until = None
+told_at Closed until = Some until
+told_at Over until = Some until
+
+abbrev pub end_text : SpellEnd → List ℕ
+end_text Present = codes ".</p>\n"
+end_text Closed = codes ", the last sample in which it was open.</p>\n"
+end_text Over = codes "; it was kept since.</p>\n"
+
+abbrev pub spell_pieces : Spell → List Piece
+spell_pieces spell =
+    markup (begin_text spell.end) ∷ value (local spell.since) ∷ markup (before_text spell.is_before)
+    ∷ markup (until_text spell.end) ∷ value (local (told_at spell.end spell.until)) ∷ markup (end_text spell.end) ∷ []
+
+-- nothing where it was never violated
+abbrev pub end_with : ReportSpan → List DaySample → Option ℕ → List Piece
+end_with span samples None = []
+end_with span samples (Some until) = spell_pieces (spell_of span until samples)
 
 abbrev pub end_pieces : ReportSpan → List DaySample → List Piece
-end_pieces span samples =
-    if is_violated_at span.last samples then since_pieces (violated_since samples) (may_be_before span.first samples) else []
+end_pieces span samples = end_with span samples (last_violated samples)
 
--- a line for a day: the day, its drawing with marks at 6, 12 and 18 o'clock, and how many of its samples are violated
+-- a line for a day: the day, its drawing with marks at 6, 12 and 18 o'clock, and in how many of its samples in which the
+-- rule was open it was violated
 abbrev pub line_pieces : ℕ → List ℕ → ℕ → ℕ → List Piece
-line_pieces t drawn violated count =
+line_pieces t drawn violated judged =
     markup (codes "<tr><th>") ∷ value (day t)
     ∷ markup (codes "</th><td><svg viewBox=\"0 0 1440 12\" preserveAspectRatio=\"none\">"
     ++ codes "<path d=\"M360 0v12M720 0v12M1080 0v12\"/>")
-    ∷ markup drawn ∷ markup (codes "</svg></td><td>") ∷ value (number violated) ∷ markup (codes " of ") ∷ value (number count)
+    ∷ markup drawn ∷ markup (codes "</svg></td><td>") ∷ value (number violated) ∷ markup (codes " of ") ∷ value (number judged)
     ∷ markup (codes "</td></tr>\n") ∷ []
 
 abbrev pub day_pieces : ZoneKind → ℕ → List DaySample → List Piece
 day_pieces zone every [] = []
 day_pieces zone every (s ∷ samples) =
-    line_pieces s.at (marks zone every (s ∷ samples)) (length (violations (s ∷ samples))) (length (s ∷ samples))
+    line_pieces s.at (marks zone every (s ∷ samples)) (length (violations (s ∷ samples))) (length (open_ones (s ∷ samples)))
 
 abbrev pub days_pieces : ZoneKind → ℕ → List DaySample → List Piece
 days_pieces zone every samples =

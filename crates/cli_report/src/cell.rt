@@ -1,5 +1,5 @@
 //! What a cell of a report tells, and its text.
-ghost use Rattle.std.specs.Prelude.{◌≡◌, ◌/◌, IfOk};
+ghost use Rattle.std.specs.Prelude.{◌≡◌, ◌+◌, ◌/◌, IfOk};
 ghost use Rattle.std.specs.Fmt.{decimal};
 ghost use Rattle.uuid.specs.Text.{hyphenated_text, lower};
 ghost use Rattle.cli_calendar.specs.Clocks.{clock_at};
@@ -23,6 +23,8 @@ pub(crate) enum CellValue<'a> {
     Id(Id),
     /// A number.
     Number(u64),
+    /// A place among others that is counted from 0, as a number that is counted from 1.
+    Place(usize),
     /// A bound, where there is one.
     Bound(Option<u32>),
     /// A number, where there is one.
@@ -49,6 +51,14 @@ fn number_text(alloc: Global, number: u64) -> Result<Vec<u8>, AllocError>
     ensures { IfOk result (λ text. text.items ≡ decimal number) }
 {
     Ok(number.to_string(alloc)?.into_bytes())
+}
+
+/// A place that is counted from 0, counted from 1, in decimal digits.
+fn place_text(alloc: Global, place: usize) -> Result<Vec<u8>, AllocError>
+    ensures { IfOk result (λ text. text.items ≡ decimal (place + 1)) }
+{
+    let counted = place as u128 + 1;
+    Ok(counted.to_string(alloc)?.into_bytes())
 }
 
 /// An identifier with hyphens, in lower case.
@@ -107,6 +117,7 @@ pub(crate) fn plain_text(
         CellValue::Text(bytes) => copy_of(alloc, bytes),
         CellValue::Id(id) => id_text(alloc, id),
         CellValue::Number(number) => number_text(alloc, *number),
+        CellValue::Place(place) => place_text(alloc, *place),
         CellValue::Bound(bound) => bound_text(alloc, bound),
         CellValue::NumberIf(number) => number_text_if(alloc, number),
         CellValue::Utc(at) => utc_text(alloc, *at),

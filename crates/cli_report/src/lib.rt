@@ -3,6 +3,7 @@
 #![tactic(auto)]
 
 mod cell;
+mod counts;
 mod csv;
 mod days;
 mod escape;
@@ -15,6 +16,7 @@ mod reported;
 mod rows;
 mod rule_section;
 mod since;
+mod spells;
 mod summary;
 mod timeline;
 mod verdicts;

@@ -4,7 +4,7 @@ ghost use Rattle.std.specs.Prelude.{◌≡◌, ◌++◌, codes, IfOk, OnOk};
 ghost use Rattle.mds_catalog.specs.Catalogue.{publications_of};
 ghost use Rattle.cli_report.specs.Names.{policies_in};
 ghost use Rattle.cli_report.specs.Page.{IsSection, city_pieces, head_pieces, head_view, minutes_text, moments_pieces};
-ghost use Rattle.cli_report.specs.Page.{name_pieces};
+ghost use Rattle.cli_report.specs.Page.{name_pieces, title_text, to_come_pieces};
 ghost use Rattle.cli_report.specs.Pieces.{IsWritten};
 ghost use Rattle.cli_report.specs.Rows.{operator_view};
 ghost use Rattle.cli_report.specs.Texts.{Appends};
@@ -17,6 +17,7 @@ use crate::ranking::ranked_rules;
 use crate::reported::{ReportHead, ReportSpan, ReportedOperator};
 use crate::rule_section::push_rules;
 use mds_match::Zone;
+use mds_text::Moment;
 use std::alloc::{AllocError, Global};
 
 /// The milliseconds of a minute.
@@ -54,24 +55,53 @@ small{font-weight:normal}
 const LEGEND: &str = "</table>
 <p>A line is a local day, from midnight to midnight, with marks at 6, 12 and 18 o'clock. \
 A black bar as high as the line: the rule was violated. A gray bar, a third as high: it was kept. \
-A thin line: it was closed, or isn't evaluated. Nothing: it wasn't in force, or nothing was sampled.</p>
+A thin line: it was closed, or isn't evaluated. Nothing: it wasn't in force, nothing was sampled, \
+or there was no such hour, as clocks were set forward over it. Behind a line stands in how many of the day's samples, of those \
+in which the rule was open, it was violated.</p>
 <p>A sample is what the operator would have been told of its own fleet at that moment; of what was between two samples \
-nothing is said. Where a rule was violated in the last sample, it is said since when; where that isn't said, it wasn't.</p>
+nothing is said. Of each rule that was violated it is said from when to when it was so last, whenever it was open.</p>
 ";
 
-/// Appends the row of the city's title; nothing where it has none.
+/// What a city is called that has this title; what is said where it has none.
+fn title_text(title: &[u8]) -> &[u8]
+    ensures { result.now ≡ title_text title.now }
+{
+    if title.is_empty() {
+        b"Rules for shared vehicles (no city is named: the configuration has no page.title)"
+    } else {
+        title
+    }
+}
+
+/// Appends the row of the city's title.
 fn push_city(out: &mut Vec<u8>, zone: &Zone, title: &[u8]) -> Result<(), AllocError>
     ensures { OnOk result (Appends (IsWritten zone.now (city_pieces title.now)) out.old.items out.new.items) }
 {
-    if title.is_empty() {
-        return push_pieces(out, zone, &[]);
-    }
     let pieces = [
         PagePiece::Markup("<tr><th>City</th><td>"),
-        PagePiece::Value(CellValue::Text(title)),
+        PagePiece::Value(CellValue::Text(title_text(title))),
         PagePiece::Markup("</td></tr>\n"),
     ];
     push_pieces(out, zone, &pieces)
+}
+
+/// Appends the row of the moment up to which a report was asked for, where it was still to come.
+fn push_to_come(out: &mut Vec<u8>, zone: &Zone, to_come: Option<Moment>) -> Result<(), AllocError>
+    ensures { OnOk result (Appends (IsWritten zone.now (to_come_pieces to_come)) out.old.items out.new.items) }
+{
+    match to_come {
+        Some(at) => {
+            let pieces = [
+                PagePiece::Markup("<tr><th>Asked for up to</th><td>"),
+                PagePiece::Value(CellValue::Local(Some(at))),
+                PagePiece::Markup(
+                    ", which was still to come: the report ends when it was made</td></tr>\n",
+                ),
+            ];
+            push_pieces(out, zone, &pieces)
+        }
+        None => push_pieces(out, zone, &[]),
+    }
 }
 
 /// The word behind a number of minutes.
@@ -114,6 +144,7 @@ fn push_head(out: &mut Vec<u8>, zone: &Zone, head: &ReportHead<'_>) -> Result<()
 {
     push_markup(out, zone, HEAD)?;
     push_city(out, zone, head.city)?;
+    push_to_come(out, zone, head.to_come)?;
     push_moments(out, zone, head)
 }
 

@@ -30,12 +30,15 @@ pub struct ReportSpan {
 /// What a page says of its report.
 #[derive(Clone, Copy)]
 pub struct ReportHead<'a> {
-    /// The city's title, as bytes of UTF-8; empty where it has none.
+    /// The city's title, as bytes of UTF-8; empty where it has none, and then the page says so.
     pub city: &'a [u8],
-    /// The zone in which times are local, as bytes of UTF-8.
+    /// The zone in which times are local, in words, as bytes of UTF-8.
     pub zone: &'a [u8],
     /// When the report was made, in milliseconds since the Unix epoch; `None` where no clock said so.
     pub made: Option<Moment>,
+    /// The moment up to which it was asked for, where that was still to come, in milliseconds since the Unix epoch: then
+    /// it ends when it was made.
+    pub to_come: Option<Moment>,
     /// The program that made it, with its version, as bytes of UTF-8.
     pub program: &'a [u8],
     /// Its moments.

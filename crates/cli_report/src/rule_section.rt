@@ -1,29 +1,48 @@
 //! A rule on the page: its titles, its bounds, how often, by how much and since when it is violated, and its days.
-ghost use Rattle.std.specs.Prelude.{◌≡◌, ◌<◌, ◌++◌, IfOk, OnOk, length, map, option_map, string_bytes};
+ghost use Rattle.std.specs.Prelude.{◌≡◌, ◌++◌, IfOk, OnOk, map, option_map, string_bytes};
 ghost use Rattle.mds_policy.specs.Policy.{rule_document};
+ghost use Rattle.cli_report.specs.Cells.{cell_view};
+ghost use Rattle.cli_report.specs.Counts.{all_behind, counts_of};
 ghost use Rattle.cli_report.specs.Days.{grouped, violations};
 ghost use Rattle.cli_report.specs.Names.{label_view, tree_policy};
-ghost use Rattle.cli_report.specs.Page.{before_text, counts_pieces, day_pieces, days_pieces, end_pieces};
-ghost use Rattle.cli_report.specs.Page.{judgment_pieces, limits_behind, rule_pieces, rules_pieces, since_pieces};
-ghost use Rattle.cli_report.specs.Page.{title_pieces, worst_behind};
+ghost use Rattle.cli_report.specs.Page.{counts_pieces, day_pieces, days_pieces, heading, heading_text, judgment_pieces};
+ghost use Rattle.cli_report.specs.Page.{limits_behind, rule_pieces, rules_pieces, title_pieces, worst_behind};
 ghost use Rattle.cli_report.specs.Pieces.{IsWritten};
 ghost use Rattle.cli_report.specs.Ranks.{samples_of};
 ghost use Rattle.cli_report.specs.Texts.{Appends, Spells};
 
 use crate::cell::CellValue;
+use crate::counts::{SampleCounts, all_behind, counts_of};
 use crate::days::{DaySample, count_first, first_of, front_of, rest_of, violations};
 use crate::excess::worst_text;
 use crate::names::{PolicyTree, RuleLabel, label_of};
 use crate::pieces::{PagePiece, push_markup, push_pieces};
 use crate::ranking::{RuleSpan, samples_of};
 use crate::reported::ReportSpan;
-use crate::since::{is_violated_at, may_be_before, violated_since};
+use crate::spells::push_end;
 use crate::timeline::push_day_line;
 use crate::words::push_bounds;
 use mds_match::Zone;
 use mds_policy::Rule;
-use mds_text::Moment;
 use std::alloc::{AllocError, Global};
+
+/// What stands in front of what a rule goes by: nothing in front of its name.
+fn heading_text(name: &[u8]) -> &'static str
+    ensures { result.now ≡ heading_text name.now }
+{
+    if name.is_empty() { "Rule " } else { "" }
+}
+
+/// What a rule goes by: its name, or else its number.
+fn heading(name: &[u8], place: usize) -> CellValue<'_>
+    ensures { cell_view result ≡ heading name.now place }
+{
+    if name.is_empty() {
+        CellValue::Place(place)
+    } else {
+        CellValue::Text(name)
+    }
+}
 
 /// Appends a rule's titles, by its names and by a sample of it.
 fn push_titles<'x>(
@@ -37,7 +56,8 @@ fn push_titles<'x>(
 {
     let pieces = [
         PagePiece::Markup("<h3>"),
-        PagePiece::Value(CellValue::Text(label.name)),
+        PagePiece::Markup(heading_text(label.name)),
+        PagePiece::Value(heading(label.name, first.number)),
         PagePiece::Markup(" <small>"),
         PagePiece::Value(CellValue::Id(first.rule)),
         PagePiece::Markup("</small></h3>\n<p>Policy "),
@@ -45,7 +65,7 @@ fn push_titles<'x>(
         PagePiece::Markup(" <small>"),
         PagePiece::Value(CellValue::Id(first.policy)),
         PagePiece::Markup("</small>, rule "),
-        PagePiece::Value(CellValue::Number(first.number as u64)),
+        PagePiece::Value(CellValue::Place(first.number)),
     ];
     push_pieces(out, zone, &pieces)
 }
@@ -80,25 +100,28 @@ fn worst_of(
     }
 }
 
-/// Appends a rule's bounds in words, that so many of so many samples are violated, and by how much.
+/// Appends a rule's bounds in words, how many of its samples are violated, of those in which it was open and of all, and by
+/// how much.
 fn push_counts<'x>(
     out: &mut Vec<u8>,
     zone: &Zone,
     limits: &'x [u8],
     worst: &'x str,
-    violated: usize,
-    count: usize,
+    all: &'x str,
+    counts: &SampleCounts,
 ) -> Result<(), AllocError>
-    ensures { OnOk result (Appends (IsWritten zone.now (counts_pieces limits.now worst.now violated count))
+    ensures { OnOk result (Appends (IsWritten zone.now (counts_pieces limits.now worst.now all.now counts.now))
         out.old.items out.new.items) }
 {
     let pieces = [
         PagePiece::Drawn(limits),
         PagePiece::Markup(". Violated in "),
-        PagePiece::Value(CellValue::Number(violated as u64)),
+        PagePiece::Value(CellValue::Number(counts.violated)),
         PagePiece::Markup(" of "),
-        PagePiece::Value(CellValue::Number(count as u64)),
-        PagePiece::Markup(" samples."),
+        PagePiece::Value(CellValue::Number(counts.judged)),
+        PagePiece::Markup(" samples"),
+        PagePiece::Markup(all),
+        PagePiece::Markup("."),
         PagePiece::Markup(worst),
         PagePiece::Markup("</p>\n"),
     ];
@@ -119,56 +142,9 @@ fn push_judgment(
     let violated = violations(alloc, samples)?;
     let limits = limits_text(alloc, rule)?;
     let worst = worst_of(alloc, rule, &violated)?;
-    push_counts(
-        out,
-        zone,
-        &limits,
-        worst.as_str(),
-        violated.len(),
-        samples.len(),
-    )
-}
-
-/// The words for a rule that may have been violated before.
-fn before_text(before: bool) -> &'static str
-    ensures { result.now ≡ before_text before }
-{
-    if before { " or before" } else { "" }
-}
-
-/// Appends since when a rule is violated.
-fn push_since(
-    out: &mut Vec<u8>,
-    zone: &Zone,
-    since: Option<Moment>,
-    before: bool,
-) -> Result<(), AllocError>
-    ensures { OnOk result (Appends (IsWritten zone.now (since_pieces since before)) out.old.items out.new.items) }
-{
-    let pieces = [
-        PagePiece::Markup("<p>Violated at the report's end, and whenever the rule was open since "),
-        PagePiece::Value(CellValue::Local(since)),
-        PagePiece::Markup(before_text(before)),
-        PagePiece::Markup(".</p>\n"),
-    ];
-    push_pieces(out, zone, &pieces)
-}
-
-/// Appends since when a rule is violated, where it is at the report's last moment.
-fn push_end(
-    out: &mut Vec<u8>,
-    zone: &Zone,
-    span: &ReportSpan,
-    samples: &[DaySample],
-) -> Result<(), AllocError>
-    ensures { OnOk result (Appends (IsWritten zone.now (end_pieces span.now samples.now)) out.old.items out.new.items) }
-{
-    if is_violated_at(span.last, samples) {
-        let before = may_be_before(span.first, samples);
-        push_since(out, zone, violated_since(samples), before)
-    } else {
-        push_pieces(out, zone, &[])
-    }
+    let counts = counts_of(alloc, samples)?;
+    let all = all_behind(alloc, &counts)?;
+    push_counts(out, zone, &limits, worst.as_str(), all.as_str(), &counts)
 }
 
 /// Appends a line for each day of a rule's samples in order.
@@ -208,26 +184,6 @@ fn push_days(
     push_markup(out, zone, "</table>\n")
 }
 
-/// Appends a rule with its days, by its samples in order.
-fn push_sampled_rule(
-    out: &mut Vec<u8>,
-    zone: &Zone,
-    span: &ReportSpan,
-    trees: &[PolicyTree<'_>],
-    samples: &[DaySample],
-) -> Result<(), AllocError>
-    requires { 0 < length samples.now }
-    ensures { OnOk result (Appends (IsWritten zone.now (rule_pieces zone.now span.now (map tree_policy trees.now) samples.now))
-        out.old.items out.new.items) }
-{
-    let first = first_of(samples);
-    let label = label_of(trees, first.policy, first.number);
-    push_titles(out, zone, &label, first)?;
-    push_judgment(out, zone, label.rule, samples)?;
-    push_end(out, zone, span, samples)?;
-    push_days(out, zone, span, samples)
-}
-
 /// Appends a rule with its days, by its samples in order; nothing where there are none.
 fn push_rule(
     out: &mut Vec<u8>,
@@ -240,10 +196,14 @@ fn push_rule(
         out.old.items out.new.items) }
 {
     if samples.is_empty() {
-        push_pieces(out, zone, &[])
-    } else {
-        push_sampled_rule(out, zone, span, trees, samples)
+        return push_pieces(out, zone, &[]);
     }
+    let first = first_of(samples);
+    let label = label_of(trees, first.policy, first.number);
+    push_titles(out, zone, &label, first)?;
+    push_judgment(out, zone, label.rule, samples)?;
+    push_end(out, zone, span, samples)?;
+    push_days(out, zone, span, samples)
 }
 
 /// Appends a rule of samples in order.

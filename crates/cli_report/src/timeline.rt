@@ -1,5 +1,6 @@
 //! A rule's day as a time line: a drawing of 1,440 units, one for each minute of the local day, by the clock.
-ghost use Rattle.std.specs.Prelude.{◌≡◌, ◌==◌, ◌<◌, ◌≤◌, ◌-◌, ◌∷◌, ◌++◌, drop, length, take, IfOk, OnOk, string_bytes};
+ghost use Rattle.std.specs.Prelude.{◌≡◌, ◌==◌, ◌<◌, ◌≤◌, ◌+◌, ◌-◌, ◌/◌, ◌∷◌, ◌++◌, drop, length, take, IfOk, OnOk};
+ghost use Rattle.std.specs.Prelude.{string_bytes};
 ghost use Rattle.cli_report.specs.Days.{grouped_by};
 ghost use Rattle.cli_report.specs.Lines.{are_alike, begin_text, goes_on, is_same, mark_begin, mark_end, mark_of};
 ghost use Rattle.cli_report.specs.Lines.{mark_text, mark_width, marks, minute_at, place_text, shape, shape_text};
@@ -9,7 +10,7 @@ ghost use Rattle.cli_report.specs.Pieces.{IsWritten};
 ghost use Rattle.cli_report.specs.Texts.{Appends};
 
 use crate::cell::CellValue;
-use crate::days::{DaySample, first_of, front_of, last_of, rest_of, violations};
+use crate::days::{DaySample, first_of, front_of, last_of, open_ones, rest_of, violations};
 use crate::pieces::{PagePiece, push_bytes, push_pieces};
 use crate::reported::ReportSpan;
 use cli_calendar::clock_at;
@@ -59,13 +60,21 @@ fn is_next(at: Moment, next: Moment, every: u64) -> bool
     next.get().unsigned_abs().saturating_sub(begin) == every
 }
 
+/// Whether the clock went so many milliseconds from a moment to another one: it wasn't set in between.
+fn is_shown_next(zone: &Zone, at: Moment, next: Moment, every: u64) -> bool
+    ensures { result ≡ (minute_at zone.now next == minute_at zone.now at + every / 60000) }
+{
+    let went = every / MINUTE;
+    minute_at(zone, next) == minute_at(zone, at) + went
+}
+
 /// Whether one mark goes on from a sample to the next one.
 fn goes_on(zone: &Zone, span: &ReportSpan, one: &DaySample, other: &DaySample) -> bool
     ensures { result ≡ goes_on zone.now span.now.every one.now other.now }
 {
     are_alike(one, other)
         && is_next(one.at, other.at, span.every)
-        && minute_at(zone, one.at) <= minute_at(zone, other.at)
+        && is_shown_next(zone, one.at, other.at, span.every)
 }
 
 /// How many samples, from the first one on, are of one mark.
@@ -203,16 +212,17 @@ fn marks_of(
     Ok(out)
 }
 
-/// Appends the row of the day of a sample, with these marks, and so many violated ones of so many samples.
+/// Appends the row of the day of a sample, with these marks, and so many violated ones of so many samples in which the rule
+/// was open.
 fn push_line(
     out: &mut Vec<u8>,
     zone: &Zone,
     first: &DaySample,
     marks: &[u8],
     violated: usize,
-    count: usize,
+    judged: usize,
 ) -> Result<(), AllocError>
-    ensures { OnOk result (Appends (IsWritten zone.now (line_pieces first.now.at marks.now violated count))
+    ensures { OnOk result (Appends (IsWritten zone.now (line_pieces first.now.at marks.now violated judged))
         out.old.items out.new.items) }
 {
     let pieces = [
@@ -223,13 +233,13 @@ fn push_line(
         PagePiece::Markup("</svg></td><td>"),
         PagePiece::Value(CellValue::Number(violated as u64)),
         PagePiece::Markup(" of "),
-        PagePiece::Value(CellValue::Number(count as u64)),
+        PagePiece::Value(CellValue::Number(judged as u64)),
         PagePiece::Markup("</td></tr>\n"),
     ];
     push_pieces(out, zone, &pieces)
 }
 
-/// Appends a row of a table: a day, its time line, and how many samples are of a violated rule.
+/// Appends a row of a table: a day, its time line, and in how many of its samples in which the rule was open it was violated.
 ///
 /// # Errors
 ///
@@ -248,5 +258,6 @@ pub(crate) fn push_day_line(
     let first = first_of(samples);
     let marks = marks_of(alloc, zone, span, samples)?;
     let violated = violations(alloc, samples)?.len();
-    push_line(out, zone, first, &marks, violated, samples.len())
+    let judged = open_ones(alloc, samples)?.len();
+    push_line(out, zone, first, &marks, violated, judged)
 }

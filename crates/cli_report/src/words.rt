@@ -1,40 +1,54 @@
 //! A rule's bounds in words.
-ghost use Rattle.std.specs.Prelude.{◌≡◌, ◌++◌, OnOk};
-ghost use Rattle.std.specs.Fmt.{decimal};
-ghost use Rattle.cli_report.specs.Page.{bounds_text, least_text, limits_text, most_text, unit_text};
+ghost use Rattle.std.specs.Prelude.{◌≡◌, ◌++◌, IfOk, OnOk, string_bytes};
+ghost use Rattle.cli_report.specs.Bounds.{bounds_text, least_text, limits_text, most_text, unit_text};
 
 use mds_policy::{Bounds, Kind, TimeUnit};
-use std::alloc::AllocError;
+use std::alloc::{AllocError, Global};
 
-/// Appends a word and a number.
-fn push_counted(out: &mut Vec<u8>, word: &str, number: u32) -> Result<(), AllocError>
-    ensures { OnOk result (out.new.items ≡ out.old.items ++ word.now ++ decimal number) }
+/// The words for the least measure of a rule, as `at least 40`.
+///
+/// # Errors
+///
+/// Out of memory.
+pub(crate) fn least_text(alloc: Global, inclusive: bool, least: u32) -> Result<String, AllocError>
+    ensures { IfOk result (λ text. string_bytes text ≡ least_text inclusive least) }
 {
-    let digits = number.to_string(*out.allocator())?;
-    out.extend_from_slice(word.as_bytes())?;
-    out.extend_from_slice(digits.as_bytes())
+    if inclusive {
+        format!(in alloc; "at least {least}")
+    } else {
+        format!(in alloc; "more than {least}")
+    }
+}
+
+/// The words for the greatest measure of a rule, as `at most 40`.
+///
+/// # Errors
+///
+/// Out of memory.
+pub(crate) fn most_text(alloc: Global, inclusive: bool, most: u32) -> Result<String, AllocError>
+    ensures { IfOk result (λ text. string_bytes text ≡ most_text inclusive most) }
+{
+    if inclusive {
+        format!(in alloc; "at most {most}")
+    } else {
+        format!(in alloc; "fewer than {most}")
+    }
 }
 
 /// Appends the least measure.
 fn push_least(out: &mut Vec<u8>, inclusive: bool, least: u32) -> Result<(), AllocError>
     ensures { OnOk result (out.new.items ≡ out.old.items ++ least_text inclusive least) }
 {
-    if inclusive {
-        push_counted(out, "at least ", least)
-    } else {
-        push_counted(out, "more than ", least)
-    }
+    let text = least_text(*out.allocator(), inclusive, least)?;
+    out.extend_from_slice(text.as_bytes())
 }
 
 /// Appends the greatest measure.
 fn push_most(out: &mut Vec<u8>, inclusive: bool, most: u32) -> Result<(), AllocError>
     ensures { OnOk result (out.new.items ≡ out.old.items ++ most_text inclusive most) }
 {
-    if inclusive {
-        push_counted(out, "at most ", most)
-    } else {
-        push_counted(out, "fewer than ", most)
-    }
+    let text = most_text(*out.allocator(), inclusive, most)?;
+    out.extend_from_slice(text.as_bytes())
 }
 
 /// Appends both.

@@ -1,25 +1,21 @@
--- What a report says of its city and its moments, and how much it says that there is.
-use Rattle.std.specs.Prelude.{ℕ, ◌-◌, ◌==◌, List, [], ◌++◌, codes, if◌then◌else◌, length, slice_get, unwrap_or, Option, Some, None, Result, Ok, Err}
-use Rattle.mds_text.specs.Fault.{Fault}
-use Rattle.mds_text.specs.Reading.{read_text}
-use Rattle.mds_text.specs.Tree.{Json}
-use Rattle.cli_documents.specs.Members.{text_named}
+-- What a report says of its moments, and how much it says that there is.
+use Rattle.std.specs.Prelude.{ℕ, ◌-◌, ◌==◌, List, if◌then◌else◌, nat_lt, length, slice_get, unwrap_or, Option, Some, None, option_map, Result}
+use Rattle.cli_journal.specs.Reports.{span_of}
+use Rattle.cli_journal.specs.declared.report_fault.ReportFault.{ReportFault}
 
--- the member `zone` of a configuration, where it is a text
-abbrev pub zone_read : Result Json Fault → List ℕ
-zone_read (Ok document) = unwrap_or (text_named (codes "zone") document) []
-zone_read (Err fault) = []
+-- A report that is asked for up to a moment that is still to come ends when it is made, where a clock says when that is.
+-- What is left over then is told by the moment up to which it was asked for.
+abbrev pub end_by : (made : Option ℕ) → (to : ℕ) → ℕ
+end_by None to = to
+end_by (Some made) to = if nat_lt made to then made else to
 
-abbrev pub zone_in : List ℕ → List ℕ
-zone_in configuration = zone_read (read_text configuration)
+abbrev pub left_over : (made : Option ℕ) → (to : ℕ) → Option ℕ
+left_over None to = None
+left_over (Some made) to = if nat_lt made to then Some to else None
 
--- a zone by its name, with its rule, or else by what the configuration has
-abbrev pub in_parentheses : List ℕ → List ℕ
-in_parentheses rule = codes " (" ++ rule ++ codes ")"
-
-abbrev pub zone_text : Option (List ℕ) → List ℕ → List ℕ
-zone_text None rule = rule
-zone_text (Some name) rule = name ++ in_parentheses rule
+-- the first moment of a report, and the one before which its last is, by what it is asked for
+abbrev pub time_of : (made from to : Option ℕ) → Result (ℕ × ℕ) ReportFault
+time_of made from to = span_of from (option_map (end_by made) to)
 
 -- the last of some moments, or else this one
 abbrev pub last_of : List ℕ → ℕ → ℕ

@@ -1,3 +1,4 @@
 pub mod Heads
 pub mod Parts
 pub mod Reports
+pub mod Zones

@@ -8,6 +8,7 @@ mod report_journals;
 mod report_operators;
 mod report_rows;
 mod report_samples;
+mod report_zone;
 mod reporting;
 
 pub use reporting::report;

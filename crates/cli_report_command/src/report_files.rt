@@ -48,11 +48,7 @@ pub fn clear_parts<R: FileHost>(rt: &R, folder: &str) {
 }
 
 /// Makes a new file for a part of a report. What another report left at its path is removed.
-fn create_part<R: FileHost>(
-    rt: &R,
-    folder: &str,
-    file: ReportFile,
-) -> Result<File, ExitCause> {
+fn create_part<R: FileHost>(rt: &R, folder: &str, file: ReportFile) -> Result<File, ExitCause> {
     let path = part_path(rt, folder, file)?;
     // If nothing has the name, there is nothing to remove.
     let _ = fs::remove_file(rt, path.as_str());
@@ -153,11 +149,7 @@ impl ReportFiles {
 }
 
 /// Gives a file of a report its name.
-fn name_file<R: FileHost>(
-    rt: &R,
-    folder: &str,
-    file: ReportFile,
-) -> Result<(), ExitCause> {
+fn name_file<R: FileHost>(rt: &R, folder: &str, file: ReportFile) -> Result<(), ExitCause> {
     let part = part_path(rt, folder, file)?;
     let path = path_of(rt, folder, file)?;
     match fs::rename(rt, part.as_str(), path.as_str()) {

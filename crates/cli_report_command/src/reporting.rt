@@ -1,9 +1,10 @@
 //! Reports how operators stood at moments of the past, from journals of a city.
 
-ghost use Rattle.std.specs.Prelude.{◌≡◌, ◌<◌, ◌^◌, All, bytes_eq, IfOk, length, map, string_bytes};
+ghost use Rattle.std.specs.Prelude.{◌≡◌, ◌<◌, ◌^◌, All, bytes_eq, IfErr, IfOk, length, map, option_and_then};
+ghost use Rattle.std.specs.Prelude.{option_map, string_bytes, Ok, Err};
 ghost use Rattle.mds_request.specs.Configuration.{configuration, operator};
-ghost use Rattle.cli_calendar.specs.Moments.{moments_between};
-ghost use Rattle.cli_report_command.specs.Heads.{last_of, noun};
+ghost use Rattle.cli_calendar.specs.Moments.{moment_in, moments_between};
+ghost use Rattle.cli_report_command.specs.Heads.{end_by, last_of, left_over, noun, time_of};
 ghost use Rattle.cli_report_command.specs.Reports.{is_reported, reported_places};
 
 use crate::host::ReportHost;
@@ -22,7 +23,7 @@ use mds_request::{Config, Operator};
 use mds_text::{Id, Moment};
 use server_admission::{MachineClock, Moments};
 use std::alloc::{AllocError, Global};
-use std::io::Print;
+use std::io::{Eprint, Print};
 use std::time::Clock;
 
 /// The milliseconds of a minute.
@@ -35,31 +36,105 @@ struct ReportTime {
     from: Moment,
     /// What all moments are before.
     to: Moment,
+    /// What they were to be before, where that is still to come.
+    to_come: Option<Moment>,
     /// The milliseconds between two moments.
     every: u64,
 }
 
-/// The time that a report is about.
+/// What all moments of a report are before that is asked for up to a moment, and is made at another one.
+fn end_by(made: Option<Moment>, to: Moment) -> Moment
+    ensures { result ≡ end_by made to }
+{
+    match made {
+        Some(made) => { if made < to { made } else { to } }
+        None => to,
+    }
+}
+
+/// The same, where there is a moment up to which it is asked for.
+fn end_by_if(made: Option<Moment>, to: Option<Moment>) -> Option<Moment>
+    ensures { result ≡ option_map (end_by made) to }
+{
+    match to {
+        Some(to) => Some(end_by(made, to)),
+        None => None,
+    }
+}
+
+/// The moment up to which a report is asked for, where it is still to come when the report is made.
+fn left_over(made: Option<Moment>, to: Moment) -> Option<Moment>
+    ensures { result ≡ left_over made to }
+{
+    match made {
+        Some(made) => { if made < to { Some(to) } else { None } }
+        None => None,
+    }
+}
+
+/// The same, where there is a moment up to which it is asked for.
+fn left_over_if(made: Option<Moment>, to: Option<Moment>) -> Option<Moment>
+    ensures { result ≡ option_and_then (left_over made) to }
+{
+    match to {
+        Some(to) => left_over(made, to),
+        None => None,
+    }
+}
+
+/// The moments of `--from` and `--to`; `None` where a text is no moment.
 ///
 /// # Errors
 ///
-/// `Report` with `NoFirst`, `NoLast` or `NoTime`; `NoMemory`.
-fn read_time(
+/// Memory ran out.
+fn asked_moments(
     alloc: Global,
     config: &Config,
     asked: &ReportOptions<'_>,
-) -> Result<ReportTime, ExitCause>
-    ensures apart { IfOk result (λ time. 0 < time.every) }
-    ensures short { IfOk result (λ time. time.every < 2 ^ 62) }
+) -> Result<(Option<Moment>, Option<Moment>), AllocError>
+    ensures from { IfOk result (λ moments. moments.0 ≡ moment_in (configuration config.now).zone asked.now.from.now) }
+    ensures to { IfOk result (λ moments. moments.1 ≡ moment_in (configuration config.now).zone asked.now.to.now) }
 {
     let from = moment_in(alloc, config.zone(), asked.from)?;
     let to = moment_in(alloc, config.zone(), asked.to)?;
-    let (from, to) = span_of(from, to)?;
+    Ok((from, to))
+}
+
+/// The time that a report is about which is made at this moment, and asked for from one to another: nothing of it is still
+/// to come.
+///
+/// # Errors
+///
+/// `NoFirst`, `NoLast` or `NoTime`.
+fn time_of(
+    asked: &ReportOptions<'_>,
+    made: Option<Moment>,
+    from: Option<Moment>,
+    to: Option<Moment>,
+) -> Result<ReportTime, ReportFault>
+    ensures span { IfOk result (λ time. time_of made from to ≡ Ok (time.from, time.to)) }
+    ensures refused { IfErr result (λ fault. time_of made from to ≡ Err fault) }
+    ensures to_come { IfOk result (λ time. time.to_come ≡ option_and_then (left_over made) to) }
+    ensures apart { IfOk result (λ time. 0 < time.every) }
+    ensures short { IfOk result (λ time. time.every < 2 ^ 62) }
+{
+    let (first, end) = span_of(from, end_by_if(made, to))?;
     Ok(ReportTime {
-        from,
-        to,
+        from: first,
+        to: end,
+        to_come: left_over_if(made, to),
         every: asked.every * MINUTE,
     })
+}
+
+/// Says on standard error that a report ends when it is made, where the moment up to which it is asked for is still to
+/// come.
+fn tell_end<R: Eprint>(rt: &R, to_come: Option<Moment>, asked: &str) {
+    if to_come.is_some() {
+        let _ = eprintln!(rt;
+            "ruffletuff: the moment of --to is still to come, so the report ends now: {asked}"
+        );
+    }
 }
 
 /// The last of some moments; another one where there is none.
@@ -227,25 +302,33 @@ struct HeadTexts {
     program: String,
 }
 
-/// What the page says of a report that was made at this moment.
-fn head_of(texts: &HeadTexts, made: Option<Moment>, span: ReportSpan) -> ReportHead<'_>
+/// What the page says of a report that was made at this moment, and asked for up to one that was still to come, where it
+/// was.
+fn head_of(
+    texts: &HeadTexts,
+    made: Option<Moment>,
+    to_come: Option<Moment>,
+    span: ReportSpan,
+) -> ReportHead<'_>
     ensures city { result.city.now ≡ string_bytes texts.now.city.title }
-    ensures zone { result.zone.now ≡ string_bytes texts.now.city.zone }
+    ensures zone { result.zone.now ≡ texts.now.city.zone.items }
     ensures program { result.program.now ≡ string_bytes texts.now.program }
     ensures made { result.made ≡ made }
+    ensures to_come { result.to_come ≡ to_come }
     ensures span { result.span ≡ span }
 {
     ReportHead {
         city: texts.city.title.as_bytes(),
-        zone: texts.city.zone.as_bytes(),
+        zone: &texts.city.zone,
         made,
+        to_come,
         program: texts.program.as_bytes(),
         span,
     }
 }
 
 /// Reports how operators stood at moments of the past: reads journals, without locking or changing them, and writes
-/// what their entries tell as three files into a folder.
+/// what their entries tell as three files into a folder. It ends when it is made, if not before.
 ///
 /// # Errors
 ///
@@ -256,7 +339,10 @@ pub fn report<R: ReportHost>(rt: &R, asked: &ReportOptions<'_>) -> Result<(), Ex
     let alloc = rt.alloc();
     let (text, city) = read_city(rt, asked.config)?;
     let config = configuration_in(alloc, &text)?;
-    let time = read_time(alloc, &config, asked)?;
+    let made = made_at(rt);
+    let (from, to) = asked_moments(alloc, &config, asked)?;
+    tell_end(rt, left_over_if(made, to), asked.to);
+    let time = time_of(asked, made, from, to)?;
     let ids = asked.operators(alloc)?;
     check_ids(config.operators(), &ids)?;
     check_folder(rt, asked.out)?;
@@ -268,7 +354,7 @@ pub fn report<R: ReportHost>(rt: &R, asked: &ReportOptions<'_>) -> Result<(), Ex
     let program = version_line(alloc, VERSION, COMMIT)?;
     let span = span_over(&time, &moments);
     let texts = HeadTexts { city, program };
-    let head = head_of(&texts, made_at(rt), span);
+    let head = head_of(&texts, made, time.to_come, span);
     let source = ReportSource {
         config: &config,
         names: &names,

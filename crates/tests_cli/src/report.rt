@@ -85,6 +85,7 @@ fn head(span: ReportSpan) -> ReportHead<'static> {
         city: b"",
         zone: b"America/New_York",
         made: None,
+        to_come: None,
         program: b"ruffletuff",
         span,
     }
@@ -254,12 +255,31 @@ fn a_night_on_the_page(rt: HostRuntime) -> Result<(), AllocError> {
         )
     );
     assert!(rt; has_part(&out, "<th>Sampled every</th><td>60 minutes</td>"));
-    assert!(rt; !has_part(&out, "<th>City</th>"));
+    assert!(rt;
+        has_part(
+            &out,
+            "<th>City</th><td>Rules for shared vehicles (no city is named: the configuration has no page.title)</td>"
+        )
+    );
     assert!(rt; has_part(&out, "<h2>&lt;script&gt; <small>"));
     assert!(rt; !has_part(&out, "<script"));
+    // The rule has no name.
+    assert!(rt;
+        has_part(
+            &out,
+            "<h3>Rule 1 <small>33333333-3333-4333-8333-333333333333</small></h3>"
+        )
+    );
+    assert!(rt; has_part(&out, "</small>, rule 1. Violated in 4 of"));
     // Two samples at 01:00, as that hour is shown twice: by the clock from 01:00 to 02:00.
     assert!(rt; has_part(&out, "height=\"12\" x=\"60\" width=\"60\"/>"));
-    assert!(rt; has_part(&out, "Violated in 4 of 6 samples."));
-    assert!(rt; has_part(&out, "</svg></td><td>3 of 5</td>"));
+    // It was closed in one of six.
+    assert!(rt;
+        has_part(
+            &out,
+            "Violated in 4 of 5 samples in which it was open (6 in all).</p>"
+        )
+    );
+    assert!(rt; has_part(&out, "</svg></td><td>3 of 4</td>"));
     Ok(())
 }

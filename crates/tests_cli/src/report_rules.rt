@@ -187,8 +187,8 @@ fn by_how_much_a_count_is_off(rt: HostRuntime) -> Result<(), AllocError> {
     push_sample(&mut samples, AUTUMN, 3, 0, Status::Violated, 6)?;
     let page = section(alloc, half_hours(AUTUMN, 0, 3), &samples)?;
     let judged =
-        "rule 0: at least 2 and at most 4 vehicles. Violated in 3 of 4 samples. At worst 7 vehicles: 3 too many. \
-        At worst 1 vehicle: 1 too few.</p>\n<p>Violated at the report's end, and whenever the rule was open since \
+        "rule 1: at least 2 and at most 4 vehicles. Violated in 3 of 4 samples. At worst 7 of at most 4: 3 too many. \
+        At worst 1 of at least 2: 1 too few.</p>\n<p>Violated at the report's end, and whenever the rule was open since \
         2026-11-01T01:30:00-04:00.</p>\n<table>";
     assert!(rt; has_part(&page, judged));
     Ok(())
@@ -208,14 +208,39 @@ fn since_when_a_rule_is_violated(rt: HostRuntime) -> Result<(), AllocError> {
     push_sample(&mut samples, AUTUMN, 3, 1, Status::Violated, 5)?;
     let page = section(alloc, half_hours(AUTUMN, 0, 3), &samples)?;
     let parked =
-        "rule 1: fewer than 24 hours in one state. Violated in 2 of 4 samples. At worst 5 vehicles at once.</p>\n\
+        "rule 2: fewer than 24 hours in one state. Violated in 2 of 2 samples in which it was open (4 in all). At worst 5 vehicles at once.</p>\n\
         <p>Violated at the report's end, and whenever the rule was open since \
         2026-11-01T00:30:00-04:00 or before.</p>\n";
     assert!(rt; has_part(&page, parked));
-    assert!(rt; has_part(&page, "At worst 5 vehicles: 1 too many.</p>\n<table>"));
+    // The other one was violated in the sample before the last.
+    let cap =
+        "At worst 5 of at most 4: 1 too many.</p>\n<p>Last violated, whenever the rule was open, from \
+        2026-11-01T01:00:00-04:00 to 2026-11-01T01:00:00-04:00; it was kept since.</p>\n<table>";
+    assert!(rt; has_part(&page, cap));
     // It began with the report's second moment: so it wasn't violated before.
     let page = section(alloc, half_hours(AUTUMN, -1, 3), &samples)?;
     assert!(rt; has_part(&page, "since 2026-11-01T00:30:00-04:00.</p>"));
+    Ok(())
+}
+
+// Violated, kept, violated, closed, violated and closed at the end: violated from 01:00 to 01:00 again, where that hour is
+// shown twice.
+#[test]
+fn until_when_a_closed_rule_was_violated(rt: HostRuntime) -> Result<(), AllocError> {
+    let alloc = rt.alloc();
+    let mut samples = Vec::new(alloc);
+    push_sample(&mut samples, AUTUMN, 0, 0, Status::Violated, 5)?;
+    push_sample(&mut samples, AUTUMN, 1, 0, Status::Ok, 4)?;
+    push_sample(&mut samples, AUTUMN, 2, 0, Status::Violated, 6)?;
+    push_sample(&mut samples, AUTUMN, 3, 0, Status::Inactive, 0)?;
+    push_sample(&mut samples, AUTUMN, 4, 0, Status::Violated, 5)?;
+    push_sample(&mut samples, AUTUMN, 5, 0, Status::Inactive, 0)?;
+    let page = section(alloc, half_hours(AUTUMN, 0, 5), &samples)?;
+    let cap =
+        "Violated in 3 of 4 samples in which it was open (6 in all). At worst 6 of at most 4: 2 too many.</p>\n\
+        <p>Violated whenever the rule was open from 2026-11-01T01:00:00-04:00 to 2026-11-01T01:00:00-05:00, \
+        the last sample in which it was open.</p>\n<table>";
+    assert!(rt; has_part(&page, cap));
     Ok(())
 }
 
@@ -237,12 +262,13 @@ fn marks_where_clocks_are_set_back(rt: HostRuntime) -> Result<(), AllocError> {
         <rect class=\"violated\" y=\"0\" height=\"12\" x=\"90\" width=\"30\"/>\
         <rect class=\"violated\" y=\"0\" height=\"12\" x=\"60\" width=\"30\"/>\
         <rect class=\"kept\" y=\"4\" height=\"4\" x=\"90\" width=\"30\"/>\
-        <rect class=\"closed\" y=\"5.5\" height=\"1\" x=\"1410\" width=\"30\"/></svg></td><td>2 of 5</td></tr>\n";
+        <rect class=\"closed\" y=\"5.5\" height=\"1\" x=\"1410\" width=\"30\"/></svg></td><td>2 of 4</td></tr>\n";
     assert!(rt; has_part(&page, line));
     Ok(())
 }
 
-// 01:30, and half an hour later 03:00, as clocks are set forward: one mark. Where an hour isn't sampled, there is none.
+// 01:30, and half an hour later 03:00, as clocks are set forward: from 02:00 to 03:00 there is no mark, since there was no
+// such hour. Where an hour isn't sampled, there is none either.
 #[test]
 fn marks_where_clocks_are_set_forward(rt: HostRuntime) -> Result<(), AllocError> {
     let alloc = rt.alloc();
@@ -251,7 +277,8 @@ fn marks_where_clocks_are_set_forward(rt: HostRuntime) -> Result<(), AllocError>
     push_sample(&mut samples, SPRING, 4, 0, Status::Violated, 5)?;
     push_sample(&mut samples, SPRING, 7, 0, Status::Violated, 5)?;
     let page = section(alloc, half_hours(SPRING, 3, 7), &samples)?;
-    let marks = "<rect class=\"violated\" y=\"0\" height=\"12\" x=\"90\" width=\"120\"/>\
+    let marks = "<rect class=\"violated\" y=\"0\" height=\"12\" x=\"90\" width=\"30\"/>\
+        <rect class=\"violated\" y=\"0\" height=\"12\" x=\"180\" width=\"30\"/>\
         <rect class=\"violated\" y=\"0\" height=\"12\" x=\"270\" width=\"30\"/></svg></td><td>3 of 3</td>";
     assert!(rt; has_part(&page, marks));
     Ok(())
@@ -264,14 +291,17 @@ fn a_page_says_what_it_is_about(rt: HostRuntime) -> Result<(), AllocError> {
     let span = half_hours(AUTUMN, 0, 3).expect(&rt, "a span");
     let head = ReportHead {
         city: b"River & City",
-        zone: b"America/New_York (EST5EDT,M3.2.0,M11.1.0)",
+        zone: b"America/New_York (UTC-05:00, in summer UTC-04:00)",
         made: Moment::new(AUTUMN),
+        to_come: Moment::new(SPRING),
         program: b"ruffletuff 1.3.0",
         span,
     };
     let out = page_start(alloc, &zone, &head)?;
     let rows = "<tr><th>City</th><td>River &amp; City</td></tr>\n\
-        <tr><th>Time zone</th><td>America/New_York (EST5EDT,M3.2.0,M11.1.0)</td></tr>\n\
+        <tr><th>Asked for up to</th><td>2026-03-08T00:00:00-05:00, which was still to come: the report ends when it was \
+        made</td></tr>\n\
+        <tr><th>Time zone</th><td>America/New_York (UTC-05:00, in summer UTC-04:00)</td></tr>\n\
         <tr><th>First sample</th><td>2026-11-01T00:00:00-04:00</td></tr>\n\
         <tr><th>Last sample</th><td>2026-11-01T01:30:00-04:00</td></tr>\n\
         <tr><th>Sampled every</th><td>30 minutes</td></tr>\n\

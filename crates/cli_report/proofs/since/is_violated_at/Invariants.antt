@@ -1,7 +1,0 @@
-use Rattle.std.proofs.Common.{◌≡◌, drop}
-use Rattle.cli_report.specs.Since.{is_violated_at}
-use Rattle.cli_report.proofs.since.is_violated_at.Given as goal
-
--- it is among the samples that are left, if it is among all
-abbrev pub invariant-loop-sample : goal.invariant-loop-sample
-invariant-loop-sample l = is_violated_at l.at (drop l.sample-index l.samples) ≡ is_violated_at l.at l.samples
