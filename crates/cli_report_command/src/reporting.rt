@@ -30,7 +30,7 @@ use std::time::Clock;
 const MINUTE: u64 = 60_000;
 
 /// The time that a report is about.
-#[derive(Clone, Copy)]
+#[derive(Drop)]
 struct ReportTime {
     /// The first moment.
     from: Moment,
@@ -43,41 +43,41 @@ struct ReportTime {
 }
 
 /// What all moments of a report are before that is asked for up to a moment, and is made at another one.
-fn end_by(made: Option<Moment>, to: Moment) -> Moment
-    ensures { result ≡ end_by made to }
+fn end_by(made: &Option<Moment>, to: Moment) -> Moment
+    ensures { result ≡ end_by made.now to }
 {
     match made {
-        Some(made) => { if made < to { made } else { to } }
+        Some(made) => { if *made < to { *made } else { to } }
         None => to,
     }
 }
 
 /// The same, where there is a moment up to which it is asked for.
-fn end_by_if(made: Option<Moment>, to: Option<Moment>) -> Option<Moment>
-    ensures { result ≡ option_map (end_by made) to }
+fn end_by_if(made: &Option<Moment>, to: &Option<Moment>) -> Option<Moment>
+    ensures { result ≡ option_map (end_by made.now) to.now }
 {
     match to {
-        Some(to) => Some(end_by(made, to)),
+        Some(to) => Some(end_by(made, *to)),
         None => None,
     }
 }
 
 /// The moment up to which a report is asked for, where it is still to come when the report is made.
-fn left_over(made: Option<Moment>, to: Moment) -> Option<Moment>
-    ensures { result ≡ left_over made to }
+fn left_over(made: &Option<Moment>, to: Moment) -> Option<Moment>
+    ensures { result ≡ left_over made.now to }
 {
     match made {
-        Some(made) => { if made < to { Some(to) } else { None } }
+        Some(made) => { if *made < to { Some(to) } else { None } }
         None => None,
     }
 }
 
 /// The same, where there is a moment up to which it is asked for.
-fn left_over_if(made: Option<Moment>, to: Option<Moment>) -> Option<Moment>
-    ensures { result ≡ option_and_then (left_over made) to }
+fn left_over_if(made: &Option<Moment>, to: &Option<Moment>) -> Option<Moment>
+    ensures { result ≡ option_and_then (left_over made.now) to.now }
 {
     match to {
-        Some(to) => left_over(made, to),
+        Some(to) => left_over(made, *to),
         None => None,
     }
 }
@@ -108,13 +108,13 @@ fn asked_moments(
 /// `NoFirst`, `NoLast` or `NoTime`.
 fn time_of(
     asked: &ReportOptions<'_>,
-    made: Option<Moment>,
+    made: &Option<Moment>,
     from: Option<Moment>,
-    to: Option<Moment>,
+    to: &Option<Moment>,
 ) -> Result<ReportTime, ReportFault>
-    ensures span { IfOk result (λ time. time_of made from to ≡ Ok (time.from, time.to)) }
-    ensures refused { IfErr result (λ fault. time_of made from to ≡ Err fault) }
-    ensures to_come { IfOk result (λ time. time.to_come ≡ option_and_then (left_over made) to) }
+    ensures span { IfOk result (λ time. time_of made.now from to.now ≡ Ok (time.from, time.to)) }
+    ensures refused { IfErr result (λ fault. time_of made.now from to.now ≡ Err fault) }
+    ensures to_come { IfOk result (λ time. time.to_come ≡ option_and_then (left_over made.now) to.now) }
     ensures apart { IfOk result (λ time. 0 < time.every) }
     ensures short { IfOk result (λ time. time.every < 2 ^ 62) }
 {
@@ -341,8 +341,8 @@ pub fn report<R: ReportHost>(rt: &R, asked: &ReportOptions<'_>) -> Result<(), Ex
     let config = configuration_in(alloc, &text)?;
     let made = made_at(rt);
     let (from, to) = asked_moments(alloc, &config, asked)?;
-    tell_end(rt, left_over_if(made, to), asked.to);
-    let time = time_of(asked, made, from, to)?;
+    tell_end(rt, left_over_if(&made, &to), asked.to);
+    let time = time_of(asked, &made, from, &to)?;
     let ids = asked.operators(alloc)?;
     check_ids(config.operators(), &ids)?;
     check_folder(rt, asked.out)?;
