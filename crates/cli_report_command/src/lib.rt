@@ -1,7 +1,6 @@
 //! The command `report`: reads a city's journals, works out its operators side by side, and writes the report's files.
 #![tactic(auto)]
 
-mod host;
 mod report_city;
 mod report_files;
 mod report_journals;

@@ -3,10 +3,10 @@ ghost use Rattle.std.specs.Prelude.{◌≡◌, ◌<◌, ◌≤◌, ℕ, All, IfO
 ghost use Rattle.mds_request.specs.Configuration.{configuration};
 ghost use Rattle.cli_report_command.specs.Parts.{IsPartOf};
 
-use crate::host::ReportHost;
 use crate::report_files::{ReportBytes, ReportFiles};
 use crate::report_rows::{operator_report, report_end, report_head};
 use crate::report_samples::{JournalFault, OperatorSamples, ReportJournal, sample_operator};
+use cli_host::MessageHost;
 use cli_journal::ExitCause;
 use cli_report::{ReportHead, ReportedOperator};
 use journal_recovery::{Cause, Fault};
@@ -116,7 +116,7 @@ fn part_of(
 /// # Errors
 ///
 /// Memory ran out.
-fn parts_of<R: ReportHost>(
+fn parts_of<R: Threads + Sync>(
     rt: &R,
     alloc: Global,
     source: &ReportSource<'_>,
@@ -182,7 +182,7 @@ fn append_parts<R: Eprint>(
 /// # Errors
 ///
 /// `ReportEntry`, `Report` with `NotWritten`, `NoMemory`.
-pub fn append_operators<R: ReportHost>(
+pub fn append_operators<R: MessageHost + Threads + Sync>(
     rt: &R,
     files: &mut ReportFiles,
     source: &ReportSource<'_>,

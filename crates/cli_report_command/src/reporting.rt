@@ -7,14 +7,13 @@ ghost use Rattle.cli_calendar.specs.Moments.{moment_in, moments_between};
 ghost use Rattle.cli_report_command.specs.Heads.{end_by, last_of, left_over, noun, time_of};
 ghost use Rattle.cli_report_command.specs.Reports.{is_reported, reported_places};
 
-use crate::host::ReportHost;
 use crate::report_city::{ReportCity, city_of};
 use crate::report_files::{ReportFiles, check_folder, clear_parts};
 use crate::report_journals::{journals_in, read_journals};
 use crate::report_operators::{ReportSource, append_operators};
 use cli_args::{COMMIT, ReportOptions, VERSION, version_line};
 use cli_calendar::{moment_in, moments_between};
-use cli_host::FileHost;
+use cli_host::{ConfigHost, FileHost};
 use cli_journal::{
     ConfigFile, ExitCause, ReportFault, configuration_in, operator_names_in, span_of,
 };
@@ -24,6 +23,7 @@ use mds_text::{Id, Moment};
 use server_admission::{MachineClock, Moments};
 use std::alloc::{AllocError, Global};
 use std::io::{Eprint, Print};
+use std::thread::Threads;
 use std::time::Clock;
 
 /// The milliseconds of a minute.
@@ -228,7 +228,7 @@ fn reported_places(
 /// # Errors
 ///
 /// As `append_operators`, and `Report` with `Present` where the folder came to have one of the files meanwhile.
-fn write_report<R: ReportHost>(
+fn write_report<R: ConfigHost + Threads + Sync>(
     rt: &R,
     folder: &str,
     source: &ReportSource<'_>,
@@ -335,7 +335,10 @@ fn head_of(
 /// `Misconfigured`; `Report`; `ReportFolder` with the first folder whose journal can't be read, or else is damaged or
 /// of another configuration; `ReportEntry` with the first entry that can't be replayed; `NoMemory`. Then nothing is
 /// written. `NotPrinted` where the report is.
-pub fn report<R: ReportHost>(rt: &R, asked: &ReportOptions<'_>) -> Result<(), ExitCause> {
+pub fn report<R>(rt: &R, asked: &ReportOptions<'_>) -> Result<(), ExitCause>
+where
+    R: ConfigHost + Print + Clock + Threads + Sync,
+{
     let alloc = rt.alloc();
     let (text, city) = read_city(rt, asked.config)?;
     let config = configuration_in(alloc, &text)?;
