@@ -6,7 +6,6 @@ ghost use Rattle.cli_report_command.specs.Parts.{IsPartOf};
 use crate::report_files::{ReportBytes, ReportFiles};
 use crate::report_rows::{operator_report, report_end, report_head};
 use crate::report_samples::{JournalFault, OperatorSamples, ReportJournal, sample_operator};
-use cli_host::MessageHost;
 use cli_journal::ExitCause;
 use cli_report::{ReportHead, ReportedOperator};
 use journal_recovery::{Cause, Fault};
@@ -14,7 +13,7 @@ use journal_samples::SampleFault;
 use mds_request::Config;
 use mds_text::Moment;
 use server_app::OperatorNames;
-use std::alloc::{AllocError, Global};
+use std::alloc::{AllocError, AllocGlobal, Global};
 use std::io::Eprint;
 use std::thread::{Threads, available_parallelism, map_indices};
 
@@ -182,7 +181,7 @@ fn append_parts<R: Eprint>(
 /// # Errors
 ///
 /// `ReportEntry`, `Report` with `NotWritten`, `NoMemory`.
-pub fn append_operators<R: MessageHost + Threads + Sync>(
+pub fn append_operators<R: Eprint + Threads + Sync + AllocGlobal>(
     rt: &R,
     files: &mut ReportFiles,
     source: &ReportSource<'_>,

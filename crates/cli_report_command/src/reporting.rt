@@ -13,7 +13,7 @@ use crate::report_journals::{journals_in, read_journals};
 use crate::report_operators::{ReportSource, append_operators};
 use cli_args::{COMMIT, ReportOptions, VERSION, version_line};
 use cli_calendar::{moment_in, moments_between};
-use cli_host::{ConfigHost, FileHost};
+use cli_host::FileHost;
 use cli_journal::{
     ConfigFile, ExitCause, ReportFault, configuration_in, operator_names_in, span_of,
 };
@@ -21,7 +21,8 @@ use cli_report::{ReportHead, ReportSpan};
 use mds_request::{Config, Operator};
 use mds_text::{Id, Moment};
 use server_admission::{MachineClock, Moments};
-use std::alloc::{AllocError, Global};
+use std::alloc::{AllocError, AllocGlobal, Global};
+use std::fs::{File, Files};
 use std::io::{Eprint, Print};
 use std::thread::Threads;
 use std::time::Clock;
@@ -228,7 +229,7 @@ fn reported_places(
 /// # Errors
 ///
 /// As `append_operators`, and `Report` with `Present` where the folder came to have one of the files meanwhile.
-fn write_report<R: ConfigHost + Threads + Sync>(
+fn write_report<R: Files<File = File> + Eprint + Threads + Sync + AllocGlobal>(
     rt: &R,
     folder: &str,
     source: &ReportSource<'_>,
@@ -337,7 +338,7 @@ fn head_of(
 /// written. `NotPrinted` where the report is.
 pub fn report<R>(rt: &R, asked: &ReportOptions<'_>) -> Result<(), ExitCause>
 where
-    R: ConfigHost + Print + Clock + Threads + Sync,
+    R: AllocGlobal + Files<File = File> + Print + Eprint + Threads + Clock + Sync + Copy,
 {
     let alloc = rt.alloc();
     let (text, city) = read_city(rt, asked.config)?;
