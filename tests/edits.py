@@ -6,7 +6,8 @@
 tests/edit_files.py has what an edit is. The functions are checked as they stand first (`rattle check --only`, with all that they call): an
 edit counts where they are proved then, and one of them isn't with the edit. The libraries below a crate are those of crates/*/out/rlib, as
 `make prove` leaves them; the kit is the one that `rt` belongs to. What was proved of a crate as it stands is kept in crates/NAME/out/edits,
-for the next run that isn't told --anew. A check takes 1 to 3 GB. The gate tries those of `gate` so, and `rt ci` in it those of `must-fail`.
+for the next run that isn't told --anew. A check takes 1 to 3 GB. With `--folder gate` they are those of
+edits/ that edits/gate.txt lists: the gate tries these so, and `rt ci` in it those of `must-fail`.
 
 Prints a line for each edit; last 'N passed, M failed', by edits, and ends with 1 where one failed.
 """
@@ -23,7 +24,9 @@ from pathlib import Path
 
 from edit_files import PARTS, ROOT, Unusable, read_edit
 
-FOLDERS = {"edits": "edits/{}", "gate": "edits/gate/{}", "must-fail": "crates/{}/must-fail"}
+FOLDERS = {"edits": "edits/{}", "gate": "edits/{}", "must-fail": "crates/{}/must-fail"}
+# Those that the gate tries of the first folder, as lines CRATE/NAME.
+GATE = ROOT / "edits" / "gate.txt"
 # How the prover tells what it found of a function, and that it knows none of that name.
 VERDICT = re.compile(r"^fn (\S+): (.*)$", re.M)
 UNKNOWN = re.compile(r"^rattle: error: `\w+` has no function `(.*?)`", re.M)
@@ -258,6 +261,9 @@ def main():
     used, kit = used_crates(), kit_folder()
     names = options.crate or list(used)
     files = [(name, file) for name in names for file in sorted((ROOT / FOLDERS[options.folder].format(name)).glob("*.edit"))]
+    if options.folder == "gate":
+        listed = set(GATE.read_text(encoding="utf-8").split())
+        files = [(name, file) for name, file in files if f"{name}/{file.stem}" in listed]
     if kit is None or not files:
         print("rt isn't on the PATH" if files else f"there is no edit of {' '.join(names)}")
         print("0 passed, 1 failed")

@@ -1,6 +1,5 @@
 #!/usr/bin/env python3
-"""The mutation tests, as texts: that each edit in crates/CRATE/must-fail/, edits/gate/CRATE/ and edits/CRATE/ can be made, and what it
-changes is a function.
+"""The mutation tests, as texts: that each edit in crates/CRATE/must-fail/ and edits/CRATE/ can be made, and what it changes is a function.
 
     python3 tests/mutations.py
 
@@ -14,7 +13,7 @@ from edit_files import ROOT, Unusable, read_edit
 
 def main():
     gate = [(it, it.parent.parent.name) for it in ROOT.glob("crates/*/must-fail/*.edit")]
-    others = [(it, it.parent.name) for pattern in ("edits/gate/*/*.edit", "edits/*/*.edit") for it in ROOT.glob(pattern)]
+    others = [(it, it.parent.name) for it in ROOT.glob("edits/*/*.edit")]
     failed = 0
     for file, crate in sorted(gate + others):
         try:
