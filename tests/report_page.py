@@ -41,7 +41,7 @@ def minutes_are_told(day, rows, marks, every):
 
 
 RULE = re.compile(
-    r"<h3>[^<]* <small>([^<]*)</small></h3>\n<p>Policy [^<]* <small>([^<]*)</small>, rule (\d+): ([^.]*)\. (Violated in [^<]*)</p>\n"
+    r"<h3>[^<]* <small>([^<]*)</small></h3>\n<p>Policy &ldquo;[^<]*&rdquo; <small>([^<]*)</small>, rule (\d+): ([^.]*)\. (Violated in [^<]*)</p>\n"
     r"(?:<p>([^<]*)</p>\n)?<table>\n"
 )
 
@@ -82,10 +82,10 @@ def since_of(rows, first, last):
         return ""
     since = run[-1][1] + (" or before" if len(run) + len(kept) == len(judged) and rows[0][0] == first else "")
     if kept:
-        return f"Last violated, whenever the rule was open, from {since} to {run[0][1]}; it was kept since."
+        return f"Last violated, whenever the rule was open, from {since} to {run[0][1]}; it was kept since. Its lines show each time."
     if run[0][0] == last:
-        return f"Violated at the report's end, and whenever the rule was open since {since}."
-    return f"Violated whenever the rule was open from {since} to {run[0][1]}, the last sample in which it was open."
+        return f"Violated at the report's end, and whenever the rule was open since {since}. Its lines show each time."
+    return f"Last violated, whenever the rule was open, from {since} to {run[0][1]}, the last sample in which it was open. Its lines show each time."
 
 
 def limits_of(rule):
@@ -97,7 +97,11 @@ def limits_of(rule):
 
 def bounds_of(rule):
     """A rule's bounds in words."""
-    unit = "vehicles" if rule["rule_type"] == "count" else f"{rule['rule_units']} in one state"
+    unit = "vehicles" if rule["rule_type"] == "count" else rule["rule_units"]
+    if rule.get("maximum", rule.get("minimum")) == 1:
+        unit = unit.removesuffix("s")
+    if rule["rule_type"] != "count":
+        unit += " in one state"
     return f"{' and '.join(limits_of(rule)) or 'any number of'} {unit}"
 
 

@@ -117,7 +117,9 @@ def tell_report(program, state):
     begun, ended = (time.strftime("%Y-%m-%dT%H:%M", time.localtime(it)) for it in (time.time() - AGE // 1000, time.time()))
     path = os.path.relpath(os.path.join(HERE, "city.json"))
     command = [program, "report", state, "--config", path, "--from", begun, "--to", ended]
-    print("The city is kept in a folder that goes when this ends. Who broke which rule in its week until now, and since when:")
+    print("The city is kept in a folder that goes when this ends. What follows reports who broke which rule in its week until now, and since when.")
+    if "unproved" in program:
+        print("With this program, which was built before its proof, that takes several minutes.")
     week.tell_alone(command, configuration["operators"][0], os.path.join("out", "river-city", configuration["operators"][0]["token"]))
 
 

@@ -165,7 +165,7 @@ def tell_alone(command, operator, folder):
     while any(os.path.exists(os.path.join(alone, it)) for it in FILES):
         number += 1
         alone = f"{folder}-{number}"
-    print(f"to make the report on {operator['name']} alone, paste (docs/REPORT.md says what the words mean):")
+    print(f"To make the report on {operator['name']} alone, paste into a terminal in this folder (docs/REPORT.md says what the words mean):")
     print(f"  mkdir -p {shlex.quote(alone)}")
     print(f"  {shlex.join([*command, '--operator', operator['id'], '--out', alone])}")
     print(f"then open {os.path.join(alone, 'report.html')}")

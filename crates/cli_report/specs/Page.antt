@@ -107,7 +107,7 @@ abbrev pub title_pieces : Label → DaySample → List Piece
 title_pieces label s =
     markup (codes "<h3>") ∷ markup (heading_text label.name) ∷ value (heading label.name s.number) ∷ markup (codes " <small>")
     ∷ value (identifier s.rule)
-    ∷ markup (codes "</small></h3>\n<p>Policy ") ∷ value (text label.policy) ∷ markup (codes " <small>") ∷ value (identifier s.policy)
+    ∷ markup (codes "</small></h3>\n<p>Policy &ldquo;") ∷ value (text label.policy) ∷ markup (codes "&rdquo; <small>") ∷ value (identifier s.policy)
     ∷ markup (codes "</small>, rule ") ∷ value (number (s.number + 1)) ∷ []
 
 -- its bounds, how often it was violated, and by how much
@@ -128,7 +128,7 @@ before_text false = []
 
 abbrev pub begin_text : SpellEnd → List ℕ
 begin_text Present = codes "<p>Violated at the report's end, and whenever the rule was open since "
-begin_text Closed = codes "<p>Violated whenever the rule was open from "
+begin_text Closed = codes "<p>Last violated, whenever the rule was open, from "
 begin_text Over = codes "<p>Last violated, whenever the rule was open, from "
 
 abbrev pub until_text : SpellEnd → List ℕ
@@ -143,9 +143,9 @@ told_at Closed until = Some until
 told_at Over until = Some until
 
 abbrev pub end_text : SpellEnd → List ℕ
-end_text Present = codes ".</p>\n"
-end_text Closed = codes ", the last sample in which it was open.</p>\n"
-end_text Over = codes "; it was kept since.</p>\n"
+end_text Present = codes ". Its lines show each time.</p>\n"
+end_text Closed = codes ", the last sample in which it was open. Its lines show each time.</p>\n"
+end_text Over = codes "; it was kept since. Its lines show each time.</p>\n"
 
 abbrev pub spell_pieces : Spell → List Piece
 spell_pieces spell =

@@ -27,6 +27,7 @@ const HEAD: &str = "<!DOCTYPE html>
 <html lang=\"en\">
 <head>
 <meta charset=\"utf-8\">
+<meta name=\"viewport\" content=\"width=device-width\">
 <title>How operators stood</title>
 <style>
 body{font:10pt sans-serif;margin:1.5em;color:#000;background:#fff}
@@ -56,10 +57,10 @@ const LEGEND: &str = "</table>
 <p>A line is a local day, from midnight to midnight, with marks at 6, 12 and 18 o'clock. \
 A black bar as high as the line: the rule was violated. A gray bar, a third as high: it was kept. \
 A thin line: it was closed, or isn't evaluated. Nothing: it wasn't in force, nothing was sampled, \
-or there was no such hour, as clocks were set forward over it. Behind a line stands in how many of the day's samples, of those \
-in which the rule was open, it was violated.</p>
+or there was no such hour, as clocks were set forward over it. The numbers behind a line: in how many of the day's samples \
+the rule was violated, of those in which it was open.</p>
 <p>A sample is what the operator would have been told of its own fleet at that moment; of what was between two samples \
-nothing is said. Of each rule that was violated it is said from when to when it was so last, whenever it was open.</p>
+nothing is said. Of each rule that was violated the last time is told, from when to when; its lines show each time.</p>
 ";
 
 /// What a city is called that has this title; what is said where it has none.

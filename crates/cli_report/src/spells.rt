@@ -28,8 +28,7 @@ fn begin_text(end: SpellEnd) -> &'static str
         SpellEnd::Present => {
             "<p>Violated at the report's end, and whenever the rule was open since "
         }
-        SpellEnd::Closed => "<p>Violated whenever the rule was open from ",
-        SpellEnd::Over => "<p>Last violated, whenever the rule was open, from ",
+        SpellEnd::Closed | SpellEnd::Over => "<p>Last violated, whenever the rule was open, from ",
     }
 }
 
@@ -58,9 +57,11 @@ fn end_text(end: SpellEnd) -> &'static str
     ensures { result.now ≡ end_text end }
 {
     match end {
-        SpellEnd::Present => ".</p>\n",
-        SpellEnd::Closed => ", the last sample in which it was open.</p>\n",
-        SpellEnd::Over => "; it was kept since.</p>\n",
+        SpellEnd::Present => ". Its lines show each time.</p>\n",
+        SpellEnd::Closed => {
+            ", the last sample in which it was open. Its lines show each time.</p>\n"
+        }
+        SpellEnd::Over => "; it was kept since. Its lines show each time.</p>\n",
     }
 }
 

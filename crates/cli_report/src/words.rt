@@ -1,6 +1,6 @@
 //! A rule's bounds in words.
 ghost use Rattle.std.specs.Prelude.{◌≡◌, ◌++◌, IfOk, OnOk, string_bytes};
-ghost use Rattle.cli_report.specs.Bounds.{bounds_text, least_text, limits_text, most_text, unit_text};
+ghost use Rattle.cli_report.specs.Bounds.{bounds_text, ends_with_one, least_text, limits_text, most_text, unit_text};
 
 use mds_policy::{Bounds, Kind, TimeUnit};
 use std::alloc::{AllocError, Global};
@@ -67,17 +67,33 @@ fn push_limits(out: &mut Vec<u8>, bounds: &Bounds) -> Result<(), AllocError>
     }
 }
 
-/// What a rule counts.
-fn unit_text(kind: Kind) -> &'static str
-    ensures { result.now ≡ unit_text kind }
+/// Whether the last number in the words for bounds is one, so that what is counted stands in the singular.
+fn ends_with_one(bounds: &Bounds) -> bool
+    ensures { result ≡ ends_with_one bounds.now.minimum bounds.now.maximum }
 {
-    match kind {
-        Kind::Count => " vehicles",
-        Kind::Time(TimeUnit::Seconds) => " seconds in one state",
-        Kind::Time(TimeUnit::Minutes) => " minutes in one state",
-        Kind::Time(TimeUnit::Hours) => " hours in one state",
-        Kind::Time(TimeUnit::Days) => " days in one state",
-        Kind::Other => " (not evaluated)",
+    match (bounds.minimum, bounds.maximum) {
+        (_, Some(most)) => most == 1,
+        (Some(least), None) => least == 1,
+        (None, None) => false,
+    }
+}
+
+/// What a rule counts: of one, or of any other number.
+fn unit_text(kind: Kind, one: bool) -> &'static str
+    ensures { result.now ≡ unit_text kind one }
+{
+    match (kind, one) {
+        (Kind::Count, true) => " vehicle",
+        (Kind::Count, false) => " vehicles",
+        (Kind::Time(TimeUnit::Seconds), true) => " second in one state",
+        (Kind::Time(TimeUnit::Seconds), false) => " seconds in one state",
+        (Kind::Time(TimeUnit::Minutes), true) => " minute in one state",
+        (Kind::Time(TimeUnit::Minutes), false) => " minutes in one state",
+        (Kind::Time(TimeUnit::Hours), true) => " hour in one state",
+        (Kind::Time(TimeUnit::Hours), false) => " hours in one state",
+        (Kind::Time(TimeUnit::Days), true) => " day in one state",
+        (Kind::Time(TimeUnit::Days), false) => " days in one state",
+        (Kind::Other, _) => " (not evaluated)",
     }
 }
 
@@ -90,5 +106,5 @@ pub(crate) fn push_bounds(out: &mut Vec<u8>, kind: Kind, bounds: &Bounds) -> Res
     ensures { OnOk result (out.new.items ≡ out.old.items ++ bounds_text kind bounds.now) }
 {
     push_limits(out, bounds)?;
-    out.extend_from_slice(unit_text(kind).as_bytes())
+    out.extend_from_slice(unit_text(kind, ends_with_one(bounds)).as_bytes())
 }

@@ -21,7 +21,7 @@ const AUTUMN: i64 = 1_793_505_600_000;
 const SPRING: i64 = 1_772_946_000_000;
 /// The milliseconds of half an hour.
 const HALF_HOUR: i64 = 1_800_000;
-/// A policy of a count rule, a time rule and one that isn't evaluated.
+/// A policy of a count rule, a time rule, one that isn't evaluated and a time rule of one hour.
 const POLICY: &str =
     r#"{"policy_id":"22222222-2222-4222-8222-222222222222","name":"Streets","start_date":0,"rules":[
 {"rule_id":"33333333-3333-4333-8333-333333333330","name":"Cap","rule_type":"count","rule_units":"minutes",
@@ -29,7 +29,9 @@ const POLICY: &str =
 {"rule_id":"33333333-3333-4333-8333-333333333331","name":"Parked","rule_type":"time","rule_units":"hours",
 "geographies":[],"maximum":24,"inclusive_maximum":false},
 {"rule_id":"33333333-3333-4333-8333-333333333332","name":"Slow","rule_type":"speed","rule_units":"kph",
-"geographies":[],"maximum":15}]}"#;
+"geographies":[],"maximum":15},
+{"rule_id":"33333333-3333-4333-8333-333333333333","name":"Left","rule_type":"time","rule_units":"hours",
+"geographies":[],"maximum":1}]}"#;
 
 /// What is published: the policy.
 fn catalogue(alloc: Global) -> Result<Catalogue, AllocError> {
@@ -189,8 +191,19 @@ fn by_how_much_a_count_is_off(rt: HostRuntime) -> Result<(), AllocError> {
     let judged =
         "rule 1: at least 2 and at most 4 vehicles. Violated in 3 of 4 samples. At worst 7 of at most 4: 3 too many. \
         At worst 1 of at least 2: 1 too few.</p>\n<p>Violated at the report's end, and whenever the rule was open since \
-        2026-11-01T01:30:00-04:00.</p>\n<table>";
+        2026-11-01T01:30:00-04:00. Its lines show each time.</p>\n<table>";
     assert!(rt; has_part(&page, judged));
+    Ok(())
+}
+
+// The rule's document says `hours`, as MDS does of any number.
+#[test]
+fn one_hour_is_told_in_the_singular(rt: HostRuntime) -> Result<(), AllocError> {
+    let alloc = rt.alloc();
+    let mut samples = Vec::new(alloc);
+    push_sample(&mut samples, AUTUMN, 0, 3, Status::Violated, 2)?;
+    let page = section(alloc, half_hours(AUTUMN, 0, 1), &samples)?;
+    assert!(rt; has_part(&page, "rule 4: at most 1 hour in one state. "));
     Ok(())
 }
 
@@ -210,16 +223,17 @@ fn since_when_a_rule_is_violated(rt: HostRuntime) -> Result<(), AllocError> {
     let parked =
         "rule 2: fewer than 24 hours in one state. Violated in 2 of 2 samples in which it was open (4 in all). At worst 5 vehicles at once.</p>\n\
         <p>Violated at the report's end, and whenever the rule was open since \
-        2026-11-01T00:30:00-04:00 or before.</p>\n";
+        2026-11-01T00:30:00-04:00 or before. Its lines show each time.</p>\n";
     assert!(rt; has_part(&page, parked));
     // The other one was violated in the sample before the last.
     let cap =
         "At worst 5 of at most 4: 1 too many.</p>\n<p>Last violated, whenever the rule was open, from \
-        2026-11-01T01:00:00-04:00 to 2026-11-01T01:00:00-04:00; it was kept since.</p>\n<table>";
+        2026-11-01T01:00:00-04:00 to 2026-11-01T01:00:00-04:00; it was kept since. \
+        Its lines show each time.</p>\n<table>";
     assert!(rt; has_part(&page, cap));
     // It began with the report's second moment: so it wasn't violated before.
     let page = section(alloc, half_hours(AUTUMN, -1, 3), &samples)?;
-    assert!(rt; has_part(&page, "since 2026-11-01T00:30:00-04:00.</p>"));
+    assert!(rt; has_part(&page, "since 2026-11-01T00:30:00-04:00. Its lines"));
     Ok(())
 }
 
@@ -238,8 +252,8 @@ fn until_when_a_closed_rule_was_violated(rt: HostRuntime) -> Result<(), AllocErr
     let page = section(alloc, half_hours(AUTUMN, 0, 5), &samples)?;
     let cap =
         "Violated in 3 of 4 samples in which it was open (6 in all). At worst 6 of at most 4: 2 too many.</p>\n\
-        <p>Violated whenever the rule was open from 2026-11-01T01:00:00-04:00 to 2026-11-01T01:00:00-05:00, \
-        the last sample in which it was open.</p>\n<table>";
+        <p>Last violated, whenever the rule was open, from 2026-11-01T01:00:00-04:00 to 2026-11-01T01:00:00-05:00, \
+        the last sample in which it was open. Its lines show each time.</p>\n<table>";
     assert!(rt; has_part(&page, cap));
     Ok(())
 }
