@@ -45,7 +45,7 @@ SOURCES_WITH_TILES = (
 # What is said of since when a rule is broken and by how much, and of the button for all of them; and what isn't said any more.
 SAID = {
     "/": ('id="askeach"', "Since when, each?"),
-    "/cards.js": ("this time since", "or earlier: broken already when this page first looked", "what stood before that isn’t kept",
+    "/cards.js": ("this time since", "not known yet: already broken when this page first looked", "what stood before that isn’t kept",
                   "it wasn’t open", "the policy wasn’t in force", '"By how much", "Broken since (UTC)",',
                   '"Broken since (local)", "Broken since (in words)"]'),
     "/rules.js": ("too few", "too many", '"long"', '"short"'),

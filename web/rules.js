@@ -178,14 +178,20 @@ export const plain = (token) => token.replaceAll("_", " ");
 export const words = (list, and = "or") =>
   list.length < 2 ? list.join("") : `${list.slice(0, -1).join(", ")} ${and} ${list.at(-1)}`;
 
+/** So many of a rule's units in words: `1 hour`, `72 hours`; without a unit the number alone. */
+function amount(count, unit) {
+  if (!unit) return number(count);
+  return `${number(count)} ${count === 1 && Object.hasOwn(UNITS, unit) ? unit.slice(0, -1) : unit}`;
+}
+
 /** A rule's bounds in words. */
 export function bounds(rule) {
   const low = rule.minimum ?? null, high = rule.maximum ?? null;
-  const unit = rule.rule_type === "time" ? ` ${rule.rule_units || ""}` : "";
-  if (high === 0 && rule.inclusive_maximum !== false && low === null && !unit) return "None";
+  const unit = rule.rule_type === "time" ? rule.rule_units : "";
+  if (high === 0 && rule.inclusive_maximum !== false && low === null && rule.rule_type !== "time") return "None";
   const parts = [];
-  if (low !== null) parts.push(`${rule.inclusive_minimum === false ? "more than" : "at least"} ${number(low)}${unit}`);
-  if (high !== null) parts.push(`${rule.inclusive_maximum === false ? "fewer than" : "at most"} ${number(high)}${unit}`);
+  if (low !== null) parts.push(`${rule.inclusive_minimum === false ? "more than" : "at least"} ${amount(low, unit)}`);
+  if (high !== null) parts.push(`${rule.inclusive_maximum === false ? "fewer than" : "at most"} ${amount(high, unit)}`);
   const text = parts.join(", ") || "any number";
   return text[0].toUpperCase() + text.slice(1);
 }
@@ -227,9 +233,10 @@ export function hours(rule) {
 
 /** For how long a vehicle stands that a rule of time counts, in words. */
 function tooLong(rule) {
-  const low = rule.minimum ?? null, high = rule.maximum ?? null, unit = rule.rule_units;
-  const under = rule.inclusive_minimum === false ? `${number(low)} ${unit} or less` : `less than ${number(low)} ${unit}`;
-  const over = rule.inclusive_maximum === false ? `${number(high)} ${unit} or more` : `more than ${number(high)} ${unit}`;
+  const low = rule.minimum ?? null, high = rule.maximum ?? null;
+  const least = amount(low, rule.rule_units), most = amount(high, rule.rule_units);
+  const under = rule.inclusive_minimum === false ? `${least} or less` : `less than ${least}`;
+  const over = rule.inclusive_maximum === false ? `${most} or more` : `more than ${most}`;
   return [low === null ? null : under, high === null ? null : over].filter(Boolean).join(", or for ");
 }
 
@@ -245,16 +252,22 @@ export function excess(rule, measure) {
 /** For how many milliseconds a vehicle may stand by a rule of time; for any number where it has no such bound. */
 export const longest = (rule) => (rule.maximum == null ? Infinity : rule.maximum * UNITS[rule.rule_units]);
 
-/** Milliseconds in whole minutes, in words. */
-function inMinutes(milliseconds) {
-  const minutes = Math.floor(milliseconds / UNITS.minutes);
+/** Milliseconds in words, by whole minutes and at most two units: `2 days 4 hours`, `2 hours 10 minutes`. */
+function durationText(milliseconds) {
+  let minutes = Math.floor(milliseconds / UNITS.minutes);
   if (!minutes) return "less than a minute";
-  return `${number(minutes)} minute${minutes === 1 ? "" : "s"}`;
+  const parts = [];
+  for (const unit of ["days", "hours", "minutes"]) {
+    const size = UNITS[unit] / UNITS.minutes, count = Math.floor(minutes / size);
+    if (count) parts.push(amount(count, unit));
+    minutes -= count * size;
+  }
+  return parts.slice(0, 2).join(" ");
 }
 
 /**
  * How far vehicles that have stood for so many milliseconds are outside a rule of time, in words: of one vehicle
- * `130 minutes too long`, of several that of the worst, `up to 130 minutes too long`; empty where one isn't outside.
+ * `2 hours 10 minutes too long`, of several that of the worst, `up to 2 days 4 hours too long`; empty where one isn't outside.
  */
 export function overstay(rule, spans) {
   const unit = UNITS[rule.rule_units], low = rule.minimum ?? null, high = rule.maximum ?? null;
@@ -263,7 +276,7 @@ export function overstay(rule, spans) {
   if (outside.length < spans.length) return "";
   const long = outside.filter((it) => high !== null && it >= high * unit).map((it) => it - high * unit);
   const short = outside.filter((it) => low !== null && it <= low * unit).map((it) => low * unit - it);
-  const worst = (list, what) => (list.length ? [`${upTo}${inMinutes(Math.max(...list))} too ${what}`] : []);
+  const worst = (list, what) => (list.length ? [`${upTo}${durationText(Math.max(...list))} too ${what}`] : []);
   return [...worst(long, "long"), ...worst(short, "short")].join(", ");
 }
 

@@ -169,7 +169,7 @@ async function csv(page, city, { is, ok }) {
   is("it has what each operator is answered", sorted(rows), sorted(await wanted(city)));
   is("kept rules have no time", lines.filter((it) => it[at("Verdict")] !== "broken" && it.slice(at("By how much")).join("")).length, 0);
   ok("broken ones have the first moment that is known, in words too", lines.filter((it) => it[at("Verdict")] === "broken").every((it) =>
-    Date.parse(it[at("Broken since (UTC)")]) === Date.parse(it[at("Broken since (local)")]) && / or earlier/.test(it[at("Broken since (in words)")])), lines);
+    Date.parse(it[at("Broken since (UTC)")]) === Date.parse(it[at("Broken since (local)")]) && / or earlier|^not known yet/.test(it[at("Broken since (in words)")])), lines);
   const cap = lines.find((it) => it[at("Measure")] === "141");
   is("with numbers and bounds", [cap[at("At least")], cap[at("At most")], cap[at("Unit")]].join(), ",150,vehicles");
   const reports = (await city.sure("scoot", "GET", "/compliance")).policies.flatMap((it) => it.rules);
@@ -240,7 +240,7 @@ export async function whole(browser, program, { is, ok }) {
 async function since(page, city, [lng, lat], { is, ok }) {
   const told_ = (text) => page.run((it) => [...document.querySelectorAll("#standingtable tbody tr")]
     .filter((row) => row.className === "bad" && row.textContent.includes(it)).map((row) => [1, 2].map((n) => row.querySelectorAll("td")[n].textContent).join(": ")).join(), text);
-  ok("a rule that was broken at the first look", /^✗ broken: this time since \d.* or earlier: broken already when this page first looked/.test(await told_("for more than 72 hours")), await told_("for more than 72 hours"));
+  ok("a rule that was broken at the first look", /^✗ broken: not known yet: already broken when this page first looked, at \d/.test(await told_("for more than 72 hours")), await told_("for more than 72 hours"));
   is("one that is kept has no time", await page.run(() =>
     [...document.querySelectorAll("#standingtable tr:not(.bad)")].filter((it) => /(since|before) \d/.test(it.textContent)).length), 0);
   for (let n = 2; n < 11; n++) {
@@ -280,7 +280,8 @@ async function renewal(page, city, { is, ok }) {
     delete document.visibilityState;
     document.dispatchEvent(new Event("visibilitychange"));
   });
-  for (let n = 0; n < 100 && page.asked.length === before; n++) await wait(100);
+  // A round asks for more than how operators stand, and in any order.
+  for (let n = 0; n < 100 && !asked(page, before).length; n++) await wait(100);
   ok("and at once when somebody does", asked(page, before).length > 0);
   await page.run(() => document.getElementById("leave").click());
 }

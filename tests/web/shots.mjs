@@ -11,7 +11,7 @@ import { fillForm, told } from "./looking.mjs";
 import { smaller } from "./png.mjs";
 import { Tally } from "./tally.mjs";
 
-const MOST = 150_000, WIDTH = 1200, HEIGHT = 750;
+const MOST = 150_000, WIDTH = 1280, HEIGHT = 800;
 
 /** The author's first view: how operators stand, and where what breaks a rule is. */
 async function oversight(browser, city, file) {

@@ -64,8 +64,8 @@ const rowsOf = async (page) => (await page.run(() => [...document.querySelectorA
     row.querySelector("td:last-child summary") || row.querySelectorAll("td")[3]].map((it) => it.textContent).join(" | ")).sort().join("\n"))).replace(/[^\S\n]/g, " ");
 
 const MEASURES = { Again: "45 of at most 40: 5 too many", Few: "33 of at least 40: 7 too few", Started: "3, none allowed: 3 too many",
-  Always: "1 of more than 1: 1 too few", Seen: "8 of at most 7: 1 too many", "=Closed": "2 vehicles for more than 30 minutes: up to 130 minutes too long" };
-const AT_FIRST = "this time since 05:00 PM or earlier: broken already when this page first looked";
+  Always: "1 of more than 1: 1 too few", Seen: "8 of at most 7: 1 too many", "=Closed": "2 vehicles for more than 30 minutes: up to 2 hours 10 minutes too long" };
+const AT_FIRST = "not known yet: already broken when this page first looked, at 05:00 PM";
 
 /** The rows as they are wanted: since when each of the first operator's rules is broken, and the second one's. */
 const wanted = (first, second, measures = MEASURES) => [...Object.entries(first).map(([name, since]) => `Scoot | ${name} | ${since} | ${measures[name]}`),
@@ -100,7 +100,7 @@ const MOMENTS = {
   Again: ["5 too many", "2025-11-30T00:42:00.000Z", "2025-11-29T16:42:00.000-08:00"],
   Few: ["7 too few", "2025-11-30T00:52:00.000Z", "2025-11-29T16:52:00.000-08:00"],
   Started: ["3 too many", "2025-11-30T00:52:00.000Z", "2025-11-29T16:52:00.000-08:00"],
-  "=Closed": ["up to 130 minutes too long", "2025-11-30T00:52:00.000Z", "2025-11-29T16:52:00.000-08:00"],
+  "=Closed": ["up to 2 hours 10 minutes too long", "2025-11-30T00:52:00.000Z", "2025-11-29T16:52:00.000-08:00"],
   Always: ["1 too few", "2025-10-18T09:00:00.000Z", "2025-10-18T01:00:00.000-08:00"],
 };
 

@@ -157,17 +157,19 @@ is("a count that is too low", [measured({ minimum: 40 }, "violated", 33), measur
   measured({ minimum: 10, maximum: 40 }, "violated", 45)].join("; "),
 "33 of at least 40: 7 too few; 40 of more than 40: 1 too few; 45 of at least 10, at most 40: 5 too many");
 const time = { rule_type: "time", rule_units: "hours" };
+is("a time's bounds in words", [{ maximum: 1 }, { minimum: 1, maximum: 24 }, { maximum: 0 }, { rule_units: "days", minimum: 1, inclusive_minimum: false }]
+  .map((it) => rules.bounds(rule({ ...time, ...it }))).join("; "), "At most 1 hour; At least 1 hour, at most 24 hours; At most 0 hours; More than 1 day");
 is("a time against its bounds", [measured({ ...time, maximum: 72 }, "violated", 9), measured({ ...time, maximum: 24, inclusive_maximum: false }, "ok", 0),
   measured({ ...time, minimum: 2, maximum: 24 }, "violated", 1)].join("; "),
 "9 vehicles for more than 72 hours; no vehicle for 24 hours or more; 1 vehicle for less than 2 hours, or for more than 24 hours");
 const stoodFor = (more, ...minutes) => rules.measured(rule({ ...time, ...more }), { status: "violated", measure: minutes.length },
   minutes.map((it) => it * 60_000));
-is("and how far it is off, in minutes", [stoodFor({ maximum: 72 }, 72 * 60 + 130), stoodFor({ maximum: 1 }, 61, 100, 99),
+is("and how far it is off", [stoodFor({ maximum: 72 }, 72 * 60 + 130), stoodFor({ maximum: 1 }, 61, 100, 99),
   stoodFor({ rule_units: "days", maximum: 1, inclusive_maximum: false }, 1440), stoodFor({ minimum: 2 }, 119, 90), stoodFor({ minimum: 2, maximum: 24 }, 90, 2440)]
-  .join("; "), "1 vehicle for more than 72 hours: 130 minutes too long; 3 vehicles for more than 1 hours: up to 40 minutes too long; "
-  + "1 vehicle for 1 days or more: less than a minute too long; 2 vehicles for less than 2 hours: up to 30 minutes too short; "
-  + "2 vehicles for less than 2 hours, or for more than 24 hours: up to 1,000 minutes too long, up to 30 minutes too short");
-is("unless a vehicle stood otherwise then", stoodFor({ maximum: 1 }, 61, 60), "2 vehicles for more than 1 hours");
+  .join("; "), "1 vehicle for more than 72 hours: 2 hours 10 minutes too long; 3 vehicles for more than 1 hour: up to 40 minutes too long; "
+  + "1 vehicle for 1 day or more: less than a minute too long; 2 vehicles for less than 2 hours: up to 30 minutes too short; "
+  + "2 vehicles for less than 2 hours, or for more than 24 hours: up to 16 hours 40 minutes too long, up to 30 minutes too short");
+is("unless a vehicle stood otherwise then", stoodFor({ maximum: 1 }, 61, 60), "2 vehicles for more than 1 hour");
 is("what isn't judged has no measure", [measured({}, "inactive", 0), measured({ rule_type: "speed" }, "not_evaluated", 0)].join(), ",");
 const ruled = (id, ...names) => policy(id, { policy_id: id, name: id, rules: names.map((name) => rule({ name })) });
 const reports = (...list) => ({ policies: list.map(([policy_id, ...statuses]) => ({ policy_id, rules: statuses.map((status) => ({ status, measure: 0 })) })) });

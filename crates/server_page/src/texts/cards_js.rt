@@ -269,7 +269,7 @@ function brokenSince(row) {
   if (seen?.hasBegun) return { from: seen.from, text: `this time since ${state.clock.since(seen.from, at)}`, isOpen: false };
   if (asked && !asked.isComing && !asked.fault) return { ...askedSince(row.policy, asked, at), isOpen: false };
   const from = seen?.from ?? null, isOpen = !state.lacksPast && !asked?.isComing;
-  const first = seen ? `this time since ${state.clock.since(from, at)} or earlier: broken already when this page first looked` : "";
+  const first = seen ? `not known yet: already broken when this page first looked, at ${state.clock.since(from, at)}` : "";
   const said = asked?.isComing ? "Asking since when…" : asked?.fault ? pastWords(asked.fault) : "";
   return { from, text: [first, said].filter(Boolean).join(". "), isOpen };
 }
@@ -702,7 +702,8 @@ function publicNote() {
 /** What is shown of a moment that is over. */
 function overNote() {
   const inForce = "What was in force then, by what is published today.", t = state.moment;
-  const none = `${state.past ? "No" : "What stood then isn’t told here: no"} vehicle is shown, and no verdict.`;
+  const none = state.past && !state.past.fault ? "The vehicles and verdicts of that moment are being asked for."
+    : `${state.past ? "No" : "What stood then isn’t told here: no"} vehicle is shown, and no verdict.`;
   const whose = isAuthor() ? "How operators stood is" : "Your vehicles and verdicts are";
   if (!shownPast()) return `${inForce} ${none}`;
   return `${inForce} ${whose} what the server would have answered on ${state.clock.when(t)} (${state.clock.name(t)}).`;

@@ -195,9 +195,9 @@ td:first-child { width: 42%; }
 td, th { text-align: left; vertical-align: top; padding: .25rem .3rem; border-top: 1px solid var(--line); }
 th { font-weight: 600; overflow-wrap: anywhere; }
 .standing th:first-child { width: 14%; }
-.standing th:nth-child(2) { width: 22%; }
+.standing th:nth-child(2) { width: 21%; }
 .standing th:nth-child(3) { width: 6.5rem; }
-.standing th:nth-child(4) { width: 32%; }
+.standing th:nth-child(4) { width: 26%; }
 .foresight { margin: .2rem 0 .5rem; table-layout: auto; }
 .foresight th, .foresight td { width: auto; overflow-wrap: break-word; }
 .foresight thead th { font-size: .8rem; color: var(--dim); border: 0; }
