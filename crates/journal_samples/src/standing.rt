@@ -1,14 +1,10 @@
 //! What a server holds of one operator: what is published, the author's drafts and the operator's vehicles.
 ghost use Rattle.std.specs.Prelude.{◌≡◌, ◌<◌, ◌++◌, length, map, slice_get, option_map, Some, IfOk, OnOk};
-ghost use Rattle.mds_bitmaps.specs.Index.{Published};
-ghost use Rattle.mds_fleet.specs.Fleet.{Fits};
 ghost use Rattle.std.specs.FinMap as finite;
 ghost use Rattle.mds_match.specs.Row.{row_of};
 ghost use Rattle.mds_verdict.specs.Verdict.{Ascends};
 ghost use Rattle.mds_catalog.specs.Catalogue.{publications_of};
-ghost use Rattle.mds_catalog.specs.Laws.{AreLawful};
 ghost use Rattle.mds_request.specs.Configuration.{configuration};
-ghost use Rattle.mds_world.specs.Lasting.{lasting_in, fits_prop};
 
 use crate::sample::{RuleSample, push_policy};
 use mds_catalog::Catalogue;
@@ -35,8 +31,6 @@ pub(crate) struct OperatorStanding<'a> {
     ghost within: { place < length (configuration config.now).operators },
     ghost named: { Some id ≡ option_map (λ o. o.id) (slice_get (configuration config.now).operators place) },
     ghost limited: { Some book.limit ≡ option_map (λ o. o.limit) (slice_get (configuration config.now).operators place) },
-    ghost lawful: { AreLawful (publications_of catalogue) },
-    ghost fits: { Fits (lasting_in (publications_of catalogue)) book } by { fits_prop (lasting_in (publications_of catalogue)) book },
 }
 
 /// The vehicles of a book, ascending by device id.

@@ -19,7 +19,6 @@ use Rattle.mds_bitmaps.specs.declared.matcher.PolicyMatcher.{PolicyMatcher}
 use Rattle.mds_bitmaps.specs.declared.bitmap_index.BitmapColumn.{BitmapColumn}
 use Rattle.mds_bitmaps.specs.declared.bitmap_index.BitmapIndex.{BitmapIndex}
 use Rattle.mds_bitmaps.specs.declared.bitmap_index.IndexedFleet.{IndexedFleet}
-use Rattle.mds_bitmaps.specs.declared.bitmap_index.TheConstants.{MOST_BITMAPS}
 
 -- device ids in the order of their bytes
 abbrev pub device_cmp : List ℕ → List ℕ → Ordering
@@ -95,11 +94,14 @@ Fits published vehicles kept = IfSome kept.listed (IsListed published vehicles)
 abbrev pub has_column : List BitmapColumn → List ℕ → Bool
 has_column columns policy = list_any (λ column. bytes_eq column.policy policy) columns
 
--- A column of this policy for so many vehicles has room in the index: it is cached already, or with one more column
--- there are at most 4,194,304 bitmaps.
+-- the most bitmaps of an index: a bitmap for each vehicle and each column
+abbrev pub most_bitmaps : ℕ
+most_bitmaps = 4194304
+
+-- a column of this policy for so many vehicles has room in the index: it is cached already, or there is room for one more
 abbrev pub HasRoom : Option IndexedFleet → List ℕ → ℕ → Type 0
 HasRoom kept policy vehicles =
-    IfSome kept (λ listed. IsTrue (has_column listed.columns.items policy) ⊎ (suc (length listed.columns.items) * vehicles ≤ MOST_BITMAPS))
+    IfSome kept (λ listed. IsTrue (has_column listed.columns.items policy) ⊎ (suc (length listed.columns.items) * vehicles ≤ most_bitmaps))
 
 -- everything that decides a match of a policy is published for good, and these are its rules
 abbrev pub IsPublished : Published → Policy → (List ℕ → List (List (List Position))) → Type 0

@@ -111,7 +111,7 @@ impl BitmapIndex {
     }
 
     /// Drops the index, and forgets which policies were asked about.
-    fn clear(&mut self)
+    pub fn clear(&mut self)
         ensures { (published : Published) (vehicles : Vehicles) → Fits published vehicles self.new }
     {
         self.listed = None;

@@ -1,8 +1,8 @@
 //! What a device that comes or goes changes in the columns and in each cached bitmap.
-ghost use Rattle.std.specs.Prelude.{◌≡◌, ◌≤◌, true, length, IfSome};
+ghost use Rattle.std.specs.Prelude.{◌≡◌, ◌≤◌, ◌*◌, suc, true, length, IfSome};
 ghost use Rattle.std.specs.List.{insert};
 ghost use Rattle.std.specs.BTreeMap.{IsOrdered};
-ghost use Rattle.mds_bitmaps.specs.Index.{AreEdited, HasArrived, HasDeparted, IsListed, Published, Vehicles, device_cmp, with_place, without_place};
+ghost use Rattle.mds_bitmaps.specs.Index.{AreEdited, HasArrived, HasDeparted, IsListed, Published, Vehicles, device_cmp, most_bitmaps, with_place, without_place};
 
 use crate::bitmap_index::{BitmapColumn, IndexedFleet, MOST_BITMAPS, log_change};
 use mds_text::Id;
@@ -16,7 +16,8 @@ const MOST_MOVES: usize = 64;
 /// it, or out of memory. The device is logged as changed, so that its words are computed by the
 /// next question.
 pub(crate) fn with_arrival(listed: IndexedFleet, device: Id) -> Option<IndexedFleet>
-    ensures { IfSome result (λ new. (published : Published) (before after : Vehicles) → IsOrdered device_cmp before → HasArrived device before after →
+    ensures room { IfSome result (λ _. length listed.columns.items * suc (length listed.devices.items) ≤ most_bitmaps) }
+    ensures fits { IfSome result (λ new. (published : Published) (before after : Vehicles) → IsOrdered device_cmp before → HasArrived device before after →
         IsListed published before listed → IsListed published after new) }
 {
     let mut listed = listed;

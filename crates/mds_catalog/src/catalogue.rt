@@ -2,6 +2,7 @@
 ghost use Rattle.std.specs.Prelude.{◌≤◌, vec_capacity};
 ghost use Rattle.mds_catalog.specs.Publication.{publications_in};
 ghost use Rattle.mds_catalog.specs.Index.{IsKept};
+ghost use Rattle.mds_catalog.specs.Laws.{AreLawful};
 ghost use Rattle.mds_catalog.specs.declared.catalogue.TheConstants.{MOST_GEOGRAPHIES, MOST_POLICIES, MOST_PUBLICATIONS};
 
 use crate::batch::Batch;
@@ -27,7 +28,8 @@ pub const MOST_POLICIES: usize = 512;
 pub const MOST_GEOGRAPHIES: usize = 512;
 
 /// All published batches in their order, and an index by identifier: where each document is, and from which moment on
-/// each policy is superseded and withdrawn. Contracts see the list of the publications.
+/// each policy is superseded and withdrawn. Each publication is lawful after those before it. Contracts see the list of the
+/// publications.
 #[derive(Drop)]
 pub struct Catalogue {
     // in the order of publication
@@ -42,6 +44,7 @@ pub struct Catalogue {
     ghost entry_room: { MOST_POLICIES ≤ vec_capacity entries },
     ghost spot_room: { MOST_GEOGRAPHIES ≤ vec_capacity spots },
     ghost kept: { IsKept (publications_in batches.items) entries.items spots.items policy_count geography_count },
+    ghost lawful: { AreLawful (publications_in batches.items) },
 }
 
 impl Catalogue {

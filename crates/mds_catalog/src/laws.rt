@@ -1,5 +1,13 @@
 //! Laws of publications. Each function's contract is the law; the functions do nothing.
-ghost use Rattle.mds_catalog.specs.Laws.{FoldKeepsLawful, FoldGoesOn, StaysPublished, StaysOver};
+ghost use Rattle.mds_catalog.specs.Catalogue.{publications_of};
+ghost use Rattle.mds_catalog.specs.Laws.{AreLawful, FoldKeepsLawful, FoldGoesOn, StaysPublished, StaysOver};
+
+use crate::catalogue::Catalogue;
+
+/// What a catalogue has published is lawful, each publication after those before it.
+pub fn published_lawfully(catalogue: &Catalogue)
+    ensures { AreLawful (publications_of catalogue.now) }
+{}
 
 /// The fold of a list of publications, each lawful after those before it, is that list.
 pub fn fold_keeps_lawful()

@@ -15,7 +15,7 @@ use mds_fleet::Book;
 use mds_request::{OperatorCall, Request};
 use mds_snapshot::{Look, OpeningName};
 use mds_verdict::Evaluator;
-use mds_world::operator_step;
+use mds_world::{OperatorContext, indexed_operator_step};
 
 /// Answers a call of the desk's operator: with the cached body, or with a reply of its own, which is cached from then
 /// on where it is about what is published.
@@ -43,15 +43,12 @@ pub(crate) fn answer_call<K: OpeningName, E: Evaluator<Catalogue>>(
     if let Some(body) = context.cache.find(&asked, &note) {
         return SharedReply::from_cached(body);
     }
-    let reply = operator_step(
-        context.alloc,
-        book,
-        catalogue,
-        &context.config,
-        context.place,
-        call,
-        request,
+    let stepped = OperatorContext {
+        alloc: context.alloc,
+        config: &*context.config,
+        place: context.place,
         evaluator,
-    );
+    };
+    let reply = indexed_operator_step(&stepped, book, catalogue, call, request);
     context.cache.answer(context.alloc, asked, &note, reply)
 }

@@ -156,6 +156,15 @@ impl Book {
         taken
     }
 
+    /// Drops the bitmap index. So what is kept is right for whatever is published.
+    pub fn forget(&mut self)
+        ensures rows { self.new.rows ≡ self.old.rows }
+        ensures limit { self.new.limit ≡ self.old.limit }
+        ensures fits { (published : Published) → Fits published self.new }
+    {
+        self.kept.clear();
+    }
+
     /// Removes a device, and returns its row. Allocates nothing. The index stays right for whatever is published.
     ///
     /// # Errors

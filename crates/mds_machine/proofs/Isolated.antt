@@ -19,7 +19,7 @@ use Rattle.mds_request.specs.declared.config.Actor.{Actor}
 use Rattle.mds_request.specs.declared.config.Actor.TheVariants.{Author, Operator as OperatorAt, Nobody}
 use Rattle.mds_machine.specs.Author.{author_does}
 use Rattle.mds_machine.specs.History.{draft_after, published_in}
-use Rattle.mds_machine.specs.Isolation.{AreKeyed, StandsAfter, HasMemory, IsMeantThroughout, IsMeantFromNew}
+use Rattle.mds_machine.specs.Isolation.{AreKeyed, StandsAfter, HasMemory, IsMeantThroughout, IsMeantFromNew, served_for}
 use Rattle.mds_machine.specs.Laws.{IsAfter}
 use Rattle.mds_machine.specs.Meaning.{AreRows, IsAnswer, Shows}
 use Rattle.mds_machine.specs.Step.{State, Exchange, Step, Run, new_state}
@@ -27,6 +27,7 @@ use Rattle.mds_machine.specs.Views.{Seen, asked, published, is_place, is_of, see
 use Rattle.mds_machine.proofs.Callers.{IsBy, call_by}
 use Rattle.mds_machine.proofs.Histories.{along, each_on, now_published, after_one, after_none, begins_keyed}
 use Rattle.mds_machine.proofs.Meaning.{is_meant, begins_without_rows}
+use Rattle.mds_machine.proofs.Served.{served_memory, served_run}
 use Rattle.mds_machine.proofs.Steps.{call_step, operator_left, authored_rows}
 
 -- ---- requests of others
@@ -172,12 +173,16 @@ module _ (first : State) (place : ℕ) (operator : Operator) (found : slice_get 
     kept = (along So on [] history first next begun run).1 has
 
 pub is_meant_throughout : IsMeantThroughout
-is_meant_throughout w next history keyed run place operator seen found shows has = (
-  answers w place operator found seen next history keyed run shows has,
-  kept w place operator found seen next history keyed run shows has,
-)
+is_meant_throughout w next history keyed run place operator seen found shows =
+    let served = served_for w.configuration place history in
+    let ran = served_run w.configuration place history w next run in
+    let has = served_memory w.configuration place history in (
+      answers w place operator found seen next served keyed ran shows has,
+      kept w place operator found seen next served keyed ran shows has,
+    )
 
 pub is_meant_from_new : IsMeantFromNew
-is_meant_from_new configuration next history place operator run found has =
-    answers (new_state configuration) place operator found [] next history (begins_keyed configuration) run
-    (begins_without_rows configuration place operator found) has
+is_meant_from_new configuration next history place operator run found =
+    answers (new_state configuration) place operator found [] next (served_for configuration place history) (begins_keyed configuration)
+    (served_run configuration place history (new_state configuration) next run)
+    (begins_without_rows configuration place operator found) (served_memory configuration place history)

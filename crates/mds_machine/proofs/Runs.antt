@@ -24,14 +24,10 @@ use Rattle.mds_machine.specs.Desks.{refusal_of, IsTurn, AreTurns, IsRun}
 use Rattle.mds_machine.specs.Fronts.{Turn, AreRising, last_front, followed, continued, AreAnswers, is_served, served_in, requests_in, replies_in}
 use Rattle.mds_machine.specs.DeskLaws.{TurnsAreMeant, TurnsAreJoined, ServedAreTurns}
 use Rattle.mds_machine.proofs.PutIn.{AreOwn}
+use Rattle.mds_machine.proofs.Served.{not_unavailable}
 use Rattle.mds_machine.proofs.Views.{prefix_on, prefix_self, both_true, rise_from, last_on, front_shown, requests_left, then, rise_then}
 
 -- ---- turns that are served
-
--- a reply other than 503 isn't a refusal with 503
-pub not_unavailable : (reply : Reply) (code : Code) → (refused code).status ≡ 503 → not (reply.status == 503) ≡ true → reply ≡ refused code → ⊥
-not_unavailable reply code is other same =
-    false≢true (sym (ap (λ status. not (status == 503)) (ap (λ r. r.status) same ∙ is)) ∙ other)
 
 module _ (configuration : Configuration) (place : ℕ) (operator : Operator) where
   -- a turn for a request of the operator is the operator's own step

@@ -32,7 +32,8 @@ use Rattle.mds_machine.specs.OneHistory.{exchanges_in, exchanges_of, exchanges_b
 use Rattle.mds_machine.specs.Room.{is_the_author, is_authors, authors_in}
 use Rattle.mds_machine.proofs.PutIn.{AreOwn, not_there, are_put_in}
 use Rattle.mds_machine.proofs.Room.{author_is, all_left, room_is_history}
-use Rattle.mds_machine.proofs.Runs.{not_unavailable, own_of, rise_of, answers_of, served_are_turns}
+use Rattle.mds_machine.proofs.Runs.{own_of, rise_of, answers_of, served_are_turns}
+use Rattle.mds_machine.proofs.Served.{not_unavailable}
 use Rattle.mds_machine.proofs.Views.{prefix_on, both_true, then}
 
 -- ---- tests that no element passes both

@@ -9,12 +9,13 @@ use Rattle.mds_request.specs.Configuration.{Configuration, actor_of}
 use Rattle.mds_request.specs.Reply.{Reply, refused}
 use Rattle.mds_request.specs.declared.code.Code.TheVariants.{NoMemory}
 use Rattle.mds_machine.specs.History.{draft_after, published_in}
-use Rattle.mds_machine.specs.Isolation.{Agree, AreKeyed, HasMemory, IsIsolatedThroughout, replies_to}
+use Rattle.mds_machine.specs.Isolation.{Agree, AreKeyed, HasMemory, IsIsolatedThroughout, replies_to, served_for}
 use Rattle.mds_machine.specs.Laws.{IsAfter}
 use Rattle.mds_machine.specs.Step.{State, Exchange, Step, Run, answered}
 use Rattle.mds_machine.specs.Views.{Seen, asked, published, is_of, view}
 use Rattle.mds_machine.proofs.Histories.{along, now_published, after_one, after_none}
 use Rattle.mds_machine.proofs.Isolated.{rows_stay, whose, memory_before, memory_last, view_on}
+use Rattle.mds_machine.proofs.Served.{served_memory, served_run}
 use Rattle.mds_machine.proofs.Steps.{same_answer}
 
 pub agree_back : (w v : State) (place : ℕ) → Agree w v place → Agree v w place
@@ -146,11 +147,13 @@ module _ (first other : State) (place : ℕ) where
       (along So on [] history first next (after_none first keyed, λ h. (agree, refl)) run).1 has
 
 pub is_isolated_throughout : IsIsolatedThroughout
-is_isolated_throughout w next history keyed run v apart other place kept agree ran seen has had =
+is_isolated_throughout w next history keyed run v apart other place kept agree ran seen =
     let self : Agree w w place = record { configuration = refl; publications = refl; rows = refl } in
-    let one = goes_by_view w w place history next keyed self run has in
-    let two = goes_by_view v w place other apart kept (agree_back w v place agree) ran had in (
+    let served = served_for w.configuration place history in
+    let others = served_for v.configuration place other in
+    let one = goes_by_view w w place served next keyed self (served_run w.configuration place history w next run) (served_memory w.configuration place history) in
+    let two = goes_by_view v w place others apart kept (agree_back w v place agree) (served_run v.configuration place other v apart ran) (served_memory v.configuration place other) in (
       one.1 ∙ ap (replies_shown w) seen ∙ sym two.1,
-      agree_on next (all_shown w (view v.configuration v.drafts other place)) apart place
-          (subst (λ s. Agree next (all_shown w s) place) seen one.0) (agree_back apart (all_shown w (view v.configuration v.drafts other place)) place two.0),
+      agree_on next (all_shown w (view v.configuration v.drafts others place)) apart place
+          (subst (λ s. Agree next (all_shown w s) place) seen one.0) (agree_back apart (all_shown w (view v.configuration v.drafts others place)) place two.0),
     )

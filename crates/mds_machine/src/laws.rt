@@ -46,7 +46,7 @@ pub fn begins_keyed()
 {}
 
 /// An operator's replies are the answers that the published texts and its own earlier requests define, whatever others
-/// ask in between and whatever is drafted, as long as its own requests don't run out of memory. What is published
+/// ask in between and whatever is drafted; its own requests that were answered 503 leave no trace. What is published
 /// afterwards, and the operator's rows, follow from its view again, so that a further history can go on from there. In
 /// the initial state each draft has its own identifier as its key.
 pub fn is_meant_throughout()
@@ -59,8 +59,8 @@ pub fn is_meant_from_new()
 {}
 
 /// Take two histories, from states that agree for an operator, that look the same to it (its own requests and the
-/// publications, at the same moments and in the same order). Its replies are the same, and the states afterwards agree
-/// for it, whatever drafts and requests of others there are, as long as its own requests don't run out of memory. In
+/// publications, at the same moments and in the same order), but for its requests that were answered 503. The replies to
+/// the others are the same, and the states afterwards agree for it, whatever drafts and requests of others there are. In
 /// both initial states each draft has its own identifier as its key.
 pub fn is_isolated_throughout()
     ensures { IsIsolatedThroughout }

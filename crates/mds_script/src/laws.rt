@@ -15,8 +15,8 @@ pub fn gives_histories()
 
 /// In the outputs of replays for two inputs of one configuration, the lines that answer an operator are the same, byte
 /// for byte, where both histories look the same to it: its own requests and the publications, at the same moments and
-/// in the same order. Drafts and requests of others change nothing, as long as its own requests don't run out of
-/// memory.
+/// in the same order. Drafts and requests of others change nothing. Its requests that were answered 503, for want of
+/// memory, are left out on both sides: they leave no trace.
 pub fn isolates_operators()
     ensures { IsolatesOperators ⟦<World<Plain> as Machine>⟧.begins ⟦<World<Plain> as Machine>⟧.step }
 {
@@ -24,8 +24,8 @@ pub fn isolates_operators()
     laws::is_isolated_throughout();
 }
 
-/// Each line that answers a request of an operator has the reply that the published texts and the operator's own
-/// earlier requests define.
+/// Each line that answers a request of an operator, unless that is 503, has the reply that the published texts and the
+/// operator's own earlier requests define.
 pub fn answers_by_views()
     ensures { AnswersByViews ⟦<World<Plain> as Machine>⟧.begins ⟦<World<Plain> as Machine>⟧.step }
 {

@@ -18,7 +18,7 @@ use Rattle.mds_catalog.specs.declared.batch.Batch.{Batch}
 use Rattle.mds_snapshot.specs.declared.history.UnnamedFront.{UnnamedFront}
 use Rattle.mds_snapshot.specs.Copies.{applied, IsFrontOf, IsKeptAt, Sees}
 use Rattle.mds_snapshot.proofs.Fronts.{prefix_self, prefix_trans}
-use Rattle.mds_snapshot.proofs.Lawful.{lawful_more}
+use Rattle.mds_catalog.proofs.Lawful.{lawful_more}
 
 pub admits : (book : Book) → Admits (IsKeptAt book) []
 admits book x views h = (

@@ -24,7 +24,7 @@ pub enum OpenFault {
 }
 
 /// A publisher of the empty list.
-#[tactic(auto, using(crate::proofs::Lawful::lawful_none))]
+#[tactic(auto, using(mds_catalog::proofs::Lawful::lawful_none))]
 fn publisher<K: OpeningName>(alloc: Global, blank: Blank) -> Result<Publisher<K>, OpenFault>
     requires name { book_of blank ≡ K.book }
     ensures { IfOk result (λ p. p ≡ record { publications = []; is_open = true }) }

@@ -1,6 +1,6 @@
 -- What a row matches of a published policy doesn't change as more is published.
 use mathlib.Core.List.{IsPrefix}
-use Rattle.std.proofs.Common.{◌≡◌, ◌⊎◌, ℕ, Bool, true, false, cond, ◌&&◌, ◌||◌, List, [], ◌∷◌, ◌++◌, map, find, bytes_eq, Option, Some, None, option_map, refl, sym, ap, subst, ◌∙◌, inl, inr, ⊎_elim}
+use Rattle.std.proofs.Common.{◌≡◌, ℕ, Bool, true, false, cond, ◌&&◌, ◌||◌, List, [], ◌∷◌, ◌++◌, map, find, bytes_eq, Option, Some, None, option_map, refl, sym, ap, subst, ◌∙◌}
 use Rattle.std.specs.List.{All, list_all}
 use Rattle.std.specs.Option.{is_some, option_map_or}
 use Rattle.std.proofs.lemmas.Bool.{false≢true, and_parts, and_from}
@@ -19,12 +19,12 @@ use Rattle.mds_bitmaps.specs.Index.{Grows, IsPublished}
 use Rattle.mds_bitmaps.proofs.Keeping.{grown}
 use Rattle.mds_fleet.specs.Fleet.{Fits, Fleet}
 use Rattle.mds_catalog.specs.Publication.{Publication, Published, dated, extended, find_geography, find_policy, is_geography_published, is_lawful, published_area, published_geographies, published_policies}
-use Rattle.mds_catalog.specs.Laws.{AreLawful}
 use Rattle.mds_catalog.proofs.Found.{find_early}
 use Rattle.mds_world.specs.Lasting.{IsOfItsId, is_placed, lasting_in}
 
 -- a policy is the published one with its identifier, and its geographies are published
-pub is_published : (publications : List Publication) (policy : Policy) → IsOfItsId publications policy → is_placed publications policy ≡ true → IsPublished (lasting_in publications) policy (published_area publications)
+pub is_published : (publications : List Publication) (policy : Policy) → IsOfItsId publications policy → is_placed publications policy ≡ true
+    → IsPublished (lasting_in publications) policy (published_area publications)
 is_published publications policy own placed = by (find_policy publications policy.id) own
   where
     by : (found : Option (Published Policy)) → option_map (λ p. p.document) found ≡ Some policy
@@ -113,7 +113,8 @@ grows_extended publications p = by (is_lawful publications p)
 pub fits_grown : (published more : kept.Published) (book : Fleet) → Grows published more → Fits published book → Fits more book
 fits_grown published more book grow fits vehicles ordered same = grown published more vehicles book.kept grow (fits vehicles ordered same)
 
-pub all_fit_grown : (publications : List Publication) (p : Publication) (books : List Fleet) → All (Fits (lasting_in publications)) books → All (Fits (lasting_in (extended publications p))) books
+pub all_fit_grown : (publications : List Publication) (p : Publication) (books : List Fleet) → All (Fits (lasting_in publications)) books
+    → All (Fits (lasting_in (extended publications p))) books
 all_fit_grown publications p books fit =
     All-weaker (Fits (lasting_in publications)) (Fits (lasting_in (extended publications p))) (λ book. fits_grown (lasting_in publications) (lasting_in (extended publications p)) book (grows_extended publications p)) books fit
 
@@ -121,28 +122,3 @@ all_fit_grown publications p books fit =
 pub fits_front : (known front : List Publication) (book : Fleet) → IsPrefix known front → Fits (lasting_in known) book → Fits (lasting_in front) book
 fits_front known front book goes_on fits =
     subst (λ ps. Fits (lasting_in ps) book) goes_on.1 (fits_grown (lasting_in known) (lasting_in (known ++ goes_on.0)) book (grows known goes_on.0) fits)
-
--- an element of a list with one more at its end: that last one, or one of the others
-cut : {A : Type 0} (xs : List A) (x : A) (before rest : List A) (y : A) → xs ++ x ∷ [] ≡ before ++ y ∷ rest
-    → ((before ≡ xs) × (y ≡ x)) ⊎ ((others : List A) × (xs ≡ before ++ y ∷ others))
-cut [] x [] rest y is = inl (refl, cc is)
-cut [] x (b ∷ []) rest y is = absurd (cc is)
-cut [] x (b ∷ c ∷ bs) rest y is = absurd (cc is)
-cut (z ∷ zs) x [] rest y is = inr (zs, cc is)
-cut (z ∷ zs) x (b ∷ bs) rest y is =
-    let heads : b ≡ z = cc is in
-    ⊎_elim (λ (t : (bs ≡ zs) × (y ≡ x)). inl (cc (heads, t.0), t.1)) (λ (t : (others : List _) × (zs ≡ bs ++ y ∷ others)). inr (t.0, cc (heads, t.1))) (cut zs x bs rest y (cc is))
-
-pub lawful_none : AreLawful []
-lawful_none [] rest p is = absurd (cc is)
-lawful_none (b ∷ bs) rest p is = absurd (cc is)
-
--- lawful publications stay lawful with one more, where it is lawful
-pub lawful_extended : (publications : List Publication) (p : Publication) → AreLawful publications → AreLawful (extended publications p)
-lawful_extended publications p all = by (is_lawful publications p) refl
-  where
-    by : (b : Bool) → is_lawful publications p ≡ b → AreLawful (cond b (publications ++ p ∷ []) publications)
-    by false is = all
-    by true is = λ before rest q same.
-        ⊎_elim (λ (t : (before ≡ publications) × (q ≡ p)). ap (λ b. is_lawful b q) t.0 ∙ ap (λ r. is_lawful publications r) t.1 ∙ is)
-        (λ (t : (others : List Publication) × (publications ≡ before ++ q ∷ others)). all before t.0 q t.1) (cut publications p before rest q same)

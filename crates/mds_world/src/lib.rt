@@ -12,5 +12,5 @@ mod texts;
 mod world;
 
 pub use author::{AuthorAct, author_step};
-pub use operator::operator_step;
+pub use operator::{OperatorContext, indexed_operator_step, operator_step};
 pub use world::World;

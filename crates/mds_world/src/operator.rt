@@ -21,6 +21,7 @@ use crate::call_fault::CallFault;
 use crate::compliance::{OperatorRequest, compliance, policy_compliance};
 use crate::published::{geographies, geography, policies, policy};
 use mds_catalog::Catalogue;
+use mds_catalog::laws::published_lawfully;
 use mds_fleet::{Book, Taken};
 use mds_request::{Code, Config, OperatorCall, Reply, Request};
 use mds_text::Id;
@@ -110,12 +111,67 @@ fn carry_out<E: Evaluator<Catalogue>>(
     }
 }
 
-/// Answers a call of the operator at this place of the configuration, over its own book and the published catalogue
-/// alone.
+/// Whose call is answered, and by what: the operator at a place of a configuration, and an evaluator.
+#[derive(Drop)]
+pub struct OperatorContext<'a, E> {
+    /// For replies.
+    pub alloc: Global,
+    /// The configuration.
+    pub config: &'a Config,
+    /// The operator's place in it.
+    pub place: usize,
+    /// What judges rules.
+    pub evaluator: &'a E,
+}
+
+/// Answers a call of an operator over its own book, whose bitmap index is right for the catalogue, and the published
+/// catalogue alone. The index spares evaluations; it is right for the catalogue afterwards too, and so for any catalogue
+/// that continues this one.
 ///
 /// The reply is a success, the first refusal that applies, or 503 `no_memory`; a call without success doesn't change
-/// the book's rows. The book's bitmap index is right for the catalogue before the call and after it, and so for any
-/// catalogue that continues this one.
+/// the book's rows.
+pub fn indexed_operator_step<E: Evaluator<Catalogue>>(
+    context: &OperatorContext<'_, E>,
+    book: &mut Book,
+    catalogue: &Catalogue,
+    call: &OperatorCall,
+    request: &Request<'_>,
+) -> Reply
+    requires ready { E.may_judge }
+    requires place { context.now.place < length (configuration context.now.config.now).operators }
+    requires limit { Some book.old.limit
+        ≡ option_map (λ o. o.limit) (slice_get (configuration context.now.config.now).operators context.now.place) }
+    requires fits { Fits (lasting_in (publications_of catalogue.now)) book.old }
+    ensures answer { IfSome (slice_get (configuration context.now.config.now).operators context.now.place) (λ o.
+        Gives (Unit {0}) book.old.rows (operator_does (configuration context.now.config.now).zone o (publications_of catalogue.now)
+        book.old.rows call.now (request_of request.now)) result book.new.rows) }
+    ensures limit { book.new.limit ≡ book.old.limit }
+    ensures fits { Fits (lasting_in (publications_of catalogue.now)) book.new }
+{
+    published_lawfully(catalogue);
+    let asked = OperatorRequest {
+        zone: context.config.zone(),
+        operator: &context.config.operators()[context.place],
+        request,
+    };
+    match carry_out(
+        context.alloc,
+        context.evaluator,
+        book,
+        catalogue,
+        &asked,
+        call,
+    ) {
+        Ok(reply) => reply,
+        Err(denied) => Reply::from(denied),
+    }
+}
+
+/// Answers a call of the operator at this place of the configuration, over its own book and the published catalogue
+/// alone: any book and any catalogue. What the book has kept between questions for other publications is dropped.
+///
+/// The reply is a success, the first refusal that applies, or 503 `no_memory`; a call without success doesn't change
+/// the book's rows.
 pub fn operator_step<E: Evaluator<Catalogue>>(
     alloc: Global,
     book: &mut Book,
@@ -129,21 +185,17 @@ pub fn operator_step<E: Evaluator<Catalogue>>(
     requires ready { E.may_judge }
     requires place { operator < length (configuration config.now).operators }
     requires limit { Some book.old.limit ≡ option_map (λ o. o.limit) (slice_get (configuration config.now).operators operator) }
-    requires lawful { AreLawful (publications_of catalogue.now) }
-    requires fits { Fits (lasting_in (publications_of catalogue.now)) book.old }
     ensures answer { IfSome (slice_get (configuration config.now).operators operator) (λ o.
         Gives (Unit {0}) book.old.rows (operator_does (configuration config.now).zone o (publications_of catalogue.now)
         book.old.rows call.now (request_of request.now)) result book.new.rows) }
     ensures limit { book.new.limit ≡ book.old.limit }
-    ensures fits { Fits (lasting_in (publications_of catalogue.now)) book.new }
 {
-    let asked = OperatorRequest {
-        zone: config.zone(),
-        operator: &config.operators()[operator],
-        request,
+    let context = OperatorContext {
+        alloc,
+        config,
+        place: operator,
+        evaluator,
     };
-    match carry_out(alloc, evaluator, book, catalogue, &asked, call) {
-        Ok(reply) => reply,
-        Err(denied) => Reply::from(denied),
-    }
+    book.forget();
+    indexed_operator_step(&context, book, catalogue, call, request)
 }

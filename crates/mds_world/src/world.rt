@@ -4,12 +4,11 @@ ghost use Rattle.std.specs.FinMap.{empty};
 ghost use Rattle.mds_bitmaps.specs.Index.{Published};
 ghost use Rattle.mds_fleet.specs.Fleet.{Fits};
 ghost use Rattle.mds_catalog.specs.Catalogue.{publications_of};
-ghost use Rattle.mds_catalog.specs.Laws.{AreLawful};
 ghost use Rattle.mds_request.specs.Configuration.{configuration, operator as operator_of};
 ghost use Rattle.mds_world.specs.Lasting.{all_fit_prop, lasting_in};
 
 use crate::author::{AuthorAct, author_step};
-use crate::operator::operator_step;
+use crate::operator::{OperatorContext, indexed_operator_step};
 use mds_catalog::Catalogue;
 use mds_drafts::Drafts;
 use mds_fleet::Book;
@@ -31,7 +30,6 @@ pub struct World<E: Drop> {
     books: Vec<Book>,
     evaluator: E,
     ghost limits: { map (λ book. book.limit) books.items ≡ map (λ operator. operator.limit) (configuration config).operators },
-    ghost lawful: { AreLawful (publications_of catalogue) },
     // the index of each book is right for what is published
     ghost fits: { All (Fits (lasting_in (publications_of catalogue))) books.items } by { all_fit_prop (lasting_in (publications_of catalogue)) books.items },
 }
@@ -140,16 +138,13 @@ impl<E: Evaluator<Catalogue> + Drop> World<E> {
         requires place { place < length (state_of self.old).configuration.operators }
         ensures { Gives (Unit {0}) (state_of self.old) (call_does (state_of self.old) (call_kinds.Operator place call.now) (request_of request.now)) result (state_of self.new) }
     {
-        let alloc = *self.books.allocator();
-        operator_step(
-            alloc,
-            &mut self.books[place],
-            &self.catalogue,
-            &self.config,
+        let context = OperatorContext {
+            alloc: *self.books.allocator(),
+            config: &self.config,
             place,
-            call,
-            request,
-            &self.evaluator,
-        )
+            evaluator: &self.evaluator,
+        };
+        let book = &mut self.books[place];
+        indexed_operator_step(&context, book, &self.catalogue, call, request)
     }
 }

@@ -1,5 +1,6 @@
 //! A pending response.
-ghost use Rattle.std.specs.Prelude.{◌≡◌, IfOk, IfSome, Ok};
+ghost use Rattle.std.specs.Prelude.{◌≡◌, IfErr, IfOk, IfSome, Err, Ok};
+ghost use Rattle.server_durable.specs.declared.pending.NoResponse.TheVariants as no_response;
 
 use crate::pending::{NoResponse, ResponseAfterSync};
 use futures::Future;
@@ -27,7 +28,8 @@ impl<N: LogName, L: Log, S: Space> PendingResponse<N, L, S> {
     pub fn of(
         answered: Result<ResponseAfterSync<N, L, S>, NoResponse>,
     ) -> Result<PendingResponse<N, L, S>, Crowded>
-        ensures { IfOk result (λ pending. IfSome pending.told (λ s. answered ≡ Ok s)) }
+        ensures told { IfOk result (λ pending. IfSome pending.told (λ s. answered ≡ Ok s)) }
+        ensures crowded { IfErr result (λ _. answered ≡ Err no_response.Crowded) }
     {
         match answered {
             Ok(pending) => Ok(PendingResponse {

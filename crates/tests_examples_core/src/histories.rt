@@ -5,6 +5,7 @@ ghost use Rattle.std.specs.Prelude.{◌≡◌, [], ◌∷◌, Some, None, codes}
 ghost use Rattle.mds_drafts.specs.Drafts.{policy};
 ghost use Rattle.mds_text.specs.declared.draft_kind.DraftKind.TheVariants.{Policy};
 ghost use Rattle.mds_machine.specs.History.{draft_after, publications_after};
+ghost use Rattle.mds_machine.specs.Isolation.{served_for};
 ghost use Rattle.mds_machine.specs.Meaning.{IsAnswer};
 ghost use Rattle.mds_machine.specs.Step.{Run};
 ghost use Rattle.mds_machine.specs.Views.{view, asked, published};
@@ -35,6 +36,12 @@ pub fn views()
     ensures publications { publications_after configuration no_drafts history ≡ first_publication ∷ [] }
     ensures of_the_first { view configuration no_drafts history 0 ≡ asked (report 2000 (codes "401")) ∷ asked ask_for_cap ∷ published first_publication ∷ asked question ∷ [] }
     ensures of_the_second { view configuration no_drafts history 1 ≡ published first_publication ∷ asked other_report ∷ [] }
+{}
+
+/// An operator's question that was answered 503 is left out of its own history, and stays in that of another.
+pub fn served_history()
+    ensures own { served_for configuration 0 (denied question ∷ []) ≡ [] }
+    ensures of_another { served_for configuration 1 (denied question ∷ []) ≡ denied question ∷ [] }
 {}
 
 /// A publish request that withdraws a policy makes a publication too, and leaves the draft under that

@@ -8,8 +8,8 @@ use Rattle.mds_bitmaps.specs.declared.bitmap_index.BitmapColumn.{BitmapColumn}
 use Rattle.mds_bitmaps.proofs.Moving.{listed_more}
 use Rattle.mds_bitmaps.proofs.moves.with_arrival.Goals as goal
 
-pub returns : goal.returns
-returns c published before after ordered arrives is =
+pub returns-clause-fits : goal.returns-clause-fits
+returns-clause-fits c published before after ordered arrives is =
     let listed = c.args.listed in
     let device : List ℕ = c.args.device in
     let place = c.in-Err.place in

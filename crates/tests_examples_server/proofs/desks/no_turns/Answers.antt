@@ -3,7 +3,7 @@ use Rattle.std.specs.Prelude.{◌==◌}
 use Rattle.std.specs.FinMap.{len}
 use Rattle.std.proofs.lemmas.Bool.{false≢true}
 use Rattle.mds_request.specs.declared.code.Code.TheVariants.{NoSnapshot, NoMemory}
-use Rattle.mds_machine.proofs.Runs.{not_unavailable}
+use Rattle.mds_machine.proofs.Served.{not_unavailable}
 use Rattle.tests_examples_core.proofs.Rows.{none_count, one_count}
 use Rattle.tests_examples_server.proofs.AtDesk.{reports}
 use Rattle.tests_examples_server.proofs.desks.no_turns.Goals as goal

@@ -4,7 +4,7 @@ use Rattle.std.specs.FinMap.{get}
 use Rattle.std.proofs.lemmas.Bool.{false≢true}
 use Rattle.mds_request.specs.declared.code.Code.TheVariants.{NoMemory}
 use Rattle.mds_machine.specs.Answer.{settled}
-use Rattle.mds_machine.proofs.Runs.{not_unavailable}
+use Rattle.mds_machine.proofs.Served.{not_unavailable}
 use Rattle.tests_examples_core.proofs.DraftCounts.{no_square, the_square}
 use Rattle.tests_examples_core.specs.Histories.{no_drafts}
 use Rattle.tests_examples_core.specs.Ids.{square_id}

@@ -1,10 +1,6 @@
-use Rattle.std.proofs.Common.{Some, ap, subst, sym, ◌∙◌}
+use Rattle.std.proofs.Common.{Some, ap, sym, ◌∙◌}
 use Rattle.std.specs.Option.{option_map}
-use Rattle.mds_catalog.specs.Catalogue.{publications_of}
-use Rattle.mds_catalog.specs.Laws.{AreLawful}
 use Rattle.mds_request.specs.Configuration.{Operator, configuration}
-use Rattle.mds_world.specs.Lasting.{lasting_in}
-use Rattle.mds_world.proofs.Lasting.{lawful_none}
 use Rattle.journal_samples.proofs.Held.{placed}
 use Rattle.journal_samples.proofs.standing.OperatorStanding.new.Goals as goal
 
@@ -15,6 +11,4 @@ invariant_of-result c =
       within = c.requires;
       named = sym (ap (option_map (λ (o : Operator). o.id)) there);
       limited = ap (λ n. Some n) c.new-3.ensures.limit ∙ sym (ap (option_map (λ (o : Operator). o.limit)) there);
-      lawful = subst AreLawful (sym c.in_ok-with_room.ensures) lawful_none;
-      fits = c.new-3.ensures.fits (lasting_in (publications_of c.in_ok-with_room.field-0));
     }

@@ -7,4 +7,4 @@ use Rattle.mds_bitmaps.proofs.bitmap_index.BitmapIndex.arrive.Goals as goal
 pub returns-in-Some-with_arrival : goal.returns-in-Some-with_arrival
 returns-in-Some-with_arrival c published before after ordered arrives fits =
     let is : IsListed published before c.in-Some.listed = subst (λ (o : Option IndexedFleet). IfSome o (IsListed published before)) (sym c.take.ensures.value ∙ c.in-Some.is) fits in
-    c.in-Some-with_arrival.ensures published before after ordered arrives is
+    c.in-Some-with_arrival.ensures.fits published before after ordered arrives is

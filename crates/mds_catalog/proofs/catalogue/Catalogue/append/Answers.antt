@@ -1,5 +1,5 @@
-use Rattle.std.proofs.Common.{◌≡◌, ap, ◌∙◌, arith, map, length, drop}
-use Rattle.std.proofs.lemmas.List.{length-map}
+use Rattle.std.proofs.Common.{◌≡◌, ap, subst, sym, ◌∙◌, arith, [], ◌∷◌, map, length, drop}
+use Rattle.std.proofs.lemmas.List.{length-map, map-append}
 use Rattle.std.specs.declared.sync.Arc.{Arc}
 use Rattle.std.specs.declared.alloc.Global.{Global}
 use Rattle.mds_policy.specs.Policy.{policy_document}
@@ -8,10 +8,12 @@ use Rattle.mds_geography.specs.Geography.{geography_document}
 use Rattle.mds_geography.specs.declared.geography.Geography as geography
 use Rattle.mds_catalog.specs.declared.batch.Batch.{Batch}
 use Rattle.mds_catalog.specs.Index.{after_successors, after_withdrawal}
-use Rattle.mds_catalog.specs.Publication.{publication_of}
+use Rattle.mds_catalog.specs.Laws.{AreLawful}
+use Rattle.mds_catalog.specs.Publication.{publication_of, publications_in}
 use Rattle.mds_catalog.specs.Catalogue.{publications_of}
 use Rattle.mds_catalog.proofs.Found.{fits_all, lawful_fits, lawful_room}
 use Rattle.mds_catalog.proofs.Keeping.{kept_push, written_back}
+use Rattle.mds_catalog.proofs.Lawful.{lawful_more}
 use Rattle.mds_catalog.proofs.Marked.{length-after_successors}
 use Rattle.mds_catalog.proofs.catalogue.Catalogue.append.Goals as goal
 
@@ -89,4 +91,7 @@ invariant_of-self c =
           c.push_reserved.new.self.items c.len.result c.len-2.result c.push_reserved.ensures.items
           (omega (arith, c.len.ensures, ap (λ (b : Batch). b.policies.len) c.deref.ensures, batch.policies.ok.0))
           (omega (arith, c.len-2.ensures, ap (λ (b : Batch). b.geographies.len) c.deref-2.ensures, batch.geographies.ok.0));
+      lawful = subst AreLawful
+          (sym (ap publications_in c.push_reserved.ensures.items ∙ map-append (λ (s : Arc Batch Global). publication_of s.value) now.batches.items (c.args.batch ∷ [])))
+          (lawful_more (publications_of now) (publication_of c.args.batch.value) now.lawful c.requires);
     }

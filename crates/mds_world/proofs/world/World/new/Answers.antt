@@ -1,19 +1,16 @@
-use Rattle.std.proofs.Common.{map, ap, subst, sym, ◌∙◌}
+use Rattle.std.proofs.Common.{map, ap, ◌∙◌}
 use Rattle.std.specs.FinMap.{empty}
 use Rattle.mds_catalog.specs.Catalogue.{publications_of}
-use Rattle.mds_catalog.specs.Laws.{AreLawful}
 use Rattle.mds_drafts.specs.Values.{drafts_of}
 use Rattle.mds_request.specs.Configuration.{configuration}
 use Rattle.mds_world.specs.Lasting.{lasting_in}
 use Rattle.mds_world.proofs.Books.{new_is}
-use Rattle.mds_world.proofs.Lasting.{lawful_none}
 use Rattle.mds_world.proofs.world.World.new.Goals as goal
 
 pub invariant_of-result : goal.invariant_of-result
 invariant_of-result g c =
     record {
       limits = c.in_ok-books.ensures.limits ∙ ap (λ operators. map (λ o. o.limit) operators) c.operators.ensures.all;
-      lawful = subst AreLawful (sym c.in_ok-catalogue.ensures) lawful_none;
       fits = c.in_ok-books.ensures.fits (lasting_in (publications_of c.in_ok-catalogue.catalogue));
     }
 
