@@ -336,18 +336,27 @@ export function remember(before, rows, at, longest) {
   return seen;
 }
 
-// How far back it is asked since when something is so, in minutes: some 43 days at most. And how near that is found out.
-const STEPS_BACK = [15, 60, 240, 960, 3_840, 15_360, 61_440], NEAR = 5 * 60_000, MOST_HALVES = 8;
+// How far back it is asked since when something is so, in minutes: some 43 days at most. Moments that are asked about are whole
+// multiples of five minutes, as those of a report are where nothing else is said.
+const STEPS_BACK = [15, 60, 240, 960, 3_840, 15_360, 61_440], SAMPLE = 5 * 60_000, MOST_HALVES = 8;
+
+/** The last moment of a sample that isn't later than `t`. */
+const sampleBefore = (t) => Math.floor(t / SAMPLE) * SAMPLE;
+
+/** A moment of a sample between two moments, or null where there is none: the one before the middle, else the next one. */
+function sampleBetween(before, from) {
+  const middle = sampleBefore((before + from) / 2), next = middle > before ? middle : before + SAMPLE;
+  return next < from ? next : null;
+}
 
 /**
  * Since when a rule is broken, by few questions: further and further back until it wasn't, and from there by halves.
- * `stoodAt` says of a moment, in whole minutes, which status the rule had then, `absent` where its policy wasn't in force, or
+ * `stoodAt` says of a moment, in whole five minutes, which status the rule had then, `absent` where its policy wasn't in force, or
  * null where that isn't told. Answers `{from, before, stood, isKept}`: it was `violated` at `from` and at each later moment
  * that was asked, and wasn't at `before`, when it stood as `stood` says; both are null where it was each time. `isKept` is
  * false where an earlier moment isn't told.
  */
 export async function sinceWhen(at, stoodAt) {
-  const minute = (t) => Math.floor(t / 60_000) * 60_000;
   let from = at, before = null, stood = null, isKept = true;
   const ask = async (t) => {
     const told = await stoodAt(t);
@@ -356,8 +365,12 @@ export async function sinceWhen(at, stoodAt) {
     else if (isKept) [before, stood] = [t, told];
     return told;
   };
-  for (const minutes of STEPS_BACK) if (await ask(minute(at - minutes * 60_000)) !== "violated") break;
-  for (let n = 0; n < MOST_HALVES && isKept && before !== null && from - before > NEAR; n++) await ask(minute((before + from) / 2));
+  for (const minutes of STEPS_BACK) if (await ask(sampleBefore(at - minutes * 60_000)) !== "violated") break;
+  for (let n = 0; n < MOST_HALVES && isKept && before !== null; n++) {
+    const between = sampleBetween(before, from);
+    if (between === null) break;
+    await ask(between);
+  }
   return { from, before, stood, isKept };
 }
 

@@ -86,21 +86,21 @@ async function askAll(page, { is, ok }) {
   is("and which goes then", await isShown(), false);
 }
 
-// Asked are 15, 60, 240, .. minutes before 17:00, then halves until five minutes are left, in whole minutes: 16:45, 16:52, 16:48;
-// of what was kept from 15:50 to 16:40: 16:45, 16:00, 16:22, 16:33, 16:39, 16:42. The farthest are 61,440 minutes: 42 days, 16 hours.
+// Asked are 15, 60, 240, .. minutes before 17:00, then halves, in whole five minutes, until five are left: 16:45 and 16:50; of
+// what was kept from 15:50 to 16:40: 16:45, 16:00, 16:20, 16:30, 16:35, 16:40. The farthest are 61,440 minutes: 42 days, 16 hours.
 const ASKED = {
-  Again: "this time since 04:42 PM; at 04:39 PM it wasn’t broken",
-  Few: "since 04:52 PM; at 04:48 PM the policy wasn’t published yet (in force since 04:50 PM)",
-  Started: "since 04:52 PM; at 04:48 PM the policy wasn’t in force yet (in force since 04:50 PM)",
-  "=Closed": "this time since 04:52 PM; at 04:48 PM it wasn’t open",
+  Again: "this time since 04:40 PM; at 04:35 PM it wasn’t broken",
+  Few: "since 04:50 PM; at 04:45 PM the policy wasn’t published yet (in force since 04:50 PM)",
+  Started: "since 04:50 PM; at 04:45 PM the policy wasn’t in force yet (in force since 04:50 PM)",
+  "=Closed": "this time since 04:50 PM; at 04:45 PM it wasn’t open",
   Always: "this time since Sat, Oct 18, 2025, 01:00 AM or earlier: broken at each moment asked about, as far back as this page asks",
 };
 const NOT_KEPT = "this time since 05:00 PM or earlier: what stood before that isn’t kept";
 const MOMENTS = {
-  Again: ["5 too many", "2025-11-30T00:42:00.000Z", "2025-11-29T16:42:00.000-08:00"],
-  Few: ["7 too few", "2025-11-30T00:52:00.000Z", "2025-11-29T16:52:00.000-08:00"],
-  Started: ["3 too many", "2025-11-30T00:52:00.000Z", "2025-11-29T16:52:00.000-08:00"],
-  "=Closed": ["up to 2 hours 10 minutes too long", "2025-11-30T00:52:00.000Z", "2025-11-29T16:52:00.000-08:00"],
+  Again: ["5 too many", "2025-11-30T00:40:00.000Z", "2025-11-29T16:40:00.000-08:00"],
+  Few: ["7 too few", "2025-11-30T00:50:00.000Z", "2025-11-29T16:50:00.000-08:00"],
+  Started: ["3 too many", "2025-11-30T00:50:00.000Z", "2025-11-29T16:50:00.000-08:00"],
+  "=Closed": ["up to 2 hours 10 minutes too long", "2025-11-30T00:50:00.000Z", "2025-11-29T16:50:00.000-08:00"],
   Always: ["1 too few", "2025-10-18T09:00:00.000Z", "2025-10-18T01:00:00.000-08:00"],
 };
 

@@ -213,14 +213,14 @@ async function sinceWhen(wasSo, now = Date.UTC(2026, 10, 29, 12, 0, 30)) {
     const told = wasSo(minutes(t));
     return typeof told === "boolean" ? told ? "violated" : "ok" : told;
   });
-  const isWhole = asked.every((it) => it % 60_000 === 0), isOnce = new Set(asked).size === asked.length;
+  const isWhole = asked.every((it) => it % 300_000 === 0), isOnce = new Set(asked).size === asked.length;
   return { from: minutes(from), before: before && minutes(before), stood, isKept, count: asked.length, isWhole, isOnce };
 }
 
 for (const age of [1, 4, 5, 14, 16, 59, 61, 200, 239, 241, 1_000, 5_000, 20_000]) {
   const { from, before, count, isWhole, isOnce } = await sinceWhen((it) => it <= age), near = Math.max(5, (before ?? 0) / 64);
   ok(`so for ${age} minutes`, from <= age && before > age && before - from <= near + 1, { age, from, before });
-  ok(`by few questions, of whole minutes, each once: ${age}`, count <= 15 && isWhole && isOnce, { count, isWhole, isOnce });
+  ok(`by few questions, of whole five minutes, each once: ${age}`, count <= 15 && isWhole && isOnce, { count, isWhole, isOnce });
 }
 is("so for longer than is asked", JSON.stringify(await sinceWhen(() => true)),
   '{"from":61441,"before":null,"stood":null,"isKept":true,"count":7,"isWhole":true,"isOnce":true}');
@@ -230,9 +230,9 @@ is("nothing is told", JSON.stringify(await sinceWhen(() => null)),
   '{"from":0,"before":null,"stood":null,"isKept":false,"count":1,"isWhole":true,"isOnce":true}');
 const gap = await sinceWhen((it) => (it > 100 && it < 200 ? null : it <= 150));
 is("what isn't told in between ends it", [gap.from, gap.before, gap.stood, gap.count].join(), "61,241,ok,4");
-// 15, 60, 38, 27, 21 and 18 minutes back, to whole minutes before: closed at 18, in force no longer at 21 and earlier.
-const shut = await sinceWhen((it) => (it <= 16 ? "violated" : it < 20 ? "inactive" : "absent"));
-is("how it stood at the last moment at which it wasn't so", [shut.from, shut.before, shut.stood].join(), "16,19,inactive");
+// 15, 60, 40, 30, 25 and 20 minutes before 12:00, and half a minute more: closed at 20, in force no longer at 25 and earlier.
+const shut = await sinceWhen((it) => (it <= 16 ? "violated" : it < 22 ? "inactive" : "absent"));
+is("how it stood at the last moment at which it wasn't so", [shut.from, shut.before, shut.stood].join(), "16,21,inactive");
 
 // --- Asking of the past -------------------------------------------------------------------------------------------------
 
