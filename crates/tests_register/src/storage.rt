@@ -1,0 +1,225 @@
+//! Tests of a journal's storage in a register: each fault on the way to the register and back, with lengths and counts
+//! worked out by hand. A group of one payload takes 44 bytes for its mark, 12 for the payload's head, and the payload.
+use journal_file::{AppendFault, Journal, JournalOpenFault, Log, LogEnd};
+use journal_register::{Extent, FIRST_HEAD, Head, Owner};
+use journal_remote::{Delivery, MemoryEngine, RemoteStorage, Tenure};
+use std::alloc::{AllocError, Global};
+use std::process::Abort;
+
+/// The owner of the register.
+const FIRST: Owner = Owner { epoch: 1, nonce: 7 };
+
+/// Who claims it from that one.
+const SECOND: Owner = Owner { epoch: 2, nonce: 9 };
+
+/// A journal over a register in memory.
+type RemoteJournal = Journal<RemoteStorage<MemoryEngine>>;
+
+/// The journal of a register without chunks, whose messages are carried so once it is open: to open it takes two looks.
+/// A transaction is sent three times at the most.
+fn opened(alloc: Global, then: &[Delivery]) -> Option<RemoteJournal> {
+    let mut deliveries = Vec::from_slice(alloc, &[Delivery::Whole, Delivery::Whole]).ok()?;
+    deliveries.extend_from_slice(then).ok()?;
+    let engine = MemoryEngine::new(alloc, FIRST, FIRST_HEAD, deliveries);
+    let tenure = Tenure {
+        owner: FIRST,
+        head: FIRST_HEAD,
+    };
+    Journal::open(alloc, RemoteStorage::new(alloc, engine, tenure, 3)).ok()
+}
+
+/// A list of one payload.
+fn texts(alloc: Global, text: &[u8]) -> Result<Vec<Vec<u8>>, AllocError> {
+    let mut texts = Vec::new(alloc);
+    texts.push(Vec::from_slice(alloc, text)?)?;
+    Ok(texts)
+}
+
+/// A payload of so many bytes.
+fn long_text(alloc: Global, len: usize) -> Result<Vec<Vec<u8>>, AllocError> {
+    let mut text = Vec::new(alloc);
+    for _ in 0..len {
+        text.push(b'a')?;
+    }
+    let mut texts = Vec::new(alloc);
+    texts.push(text)?;
+    Ok(texts)
+}
+
+/// Checks that a journal has these many chunks, with the head behind them at this position, and this many payloads.
+fn expect_head(rt: &impl Abort, head: Head, chunks: u64, position: u64, count: u64) {
+    assert!(rt; head.extent.chunks == chunks);
+    assert!(rt; head.extent.end.position == position);
+    assert!(rt; head.extent.end.count == count);
+}
+
+#[test]
+fn appended_payloads_are_read(rt: HostRuntime) {
+    let alloc = rt.alloc();
+    let mut journal = opened(alloc, &[]).expect(&rt, "a journal");
+    let one = texts(alloc, b"one").expect(&rt, "memory");
+    let two = texts(alloc, b"two!").expect(&rt, "memory");
+    assert!(rt; journal.append(0, &one) == Ok(1));
+    assert!(rt; journal.sync() == Ok(1));
+    assert!(rt; journal.append(1, &two) == Ok(2));
+    let found = journal.read_from(0).expect(&rt, "payloads");
+    assert!(rt; found.len() == 2);
+    assert!(rt;
+        found[0].as_slice() == b"one".as_slice() && found[1].as_slice() == b"two!".as_slice()
+    );
+    let engine = journal.into_storage().into_engine();
+    // 44 + 12 + 3, and 44 + 12 + 4 more
+    expect_head(&rt, engine.head, 2, 119, 2);
+    assert!(rt; engine.chunks.len() == 2);
+}
+
+#[test]
+fn sync_behind_an_append_sends_nothing(rt: HostRuntime) {
+    let alloc = rt.alloc();
+    let mut journal = opened(alloc, &[]).expect(&rt, "a journal");
+    let one = texts(alloc, b"one").expect(&rt, "memory");
+    assert!(rt; journal.append(0, &one) == Ok(1));
+    assert!(rt; journal.sync() == Ok(1));
+    assert!(rt; journal.sync() == Ok(1));
+    // two looks to open it, the append, and the look of the second sync
+    assert!(rt; journal.into_storage().into_engine().sent == 4);
+}
+
+/// Appends one payload, whose message is carried so, and checks that it stands once, by so many messages, of which the
+/// first two are the looks that open the journal.
+fn expect_appended_once(rt: &impl Abort, alloc: Global, then: &[Delivery], sent: u64) {
+    let mut journal = opened(alloc, then).expect(rt, "a journal");
+    let one = texts(alloc, b"one").expect(rt, "memory");
+    assert!(rt; journal.append(0, &one) == Ok(1));
+    let engine = journal.into_storage().into_engine();
+    expect_head(rt, engine.head, 1, 59, 1);
+    assert!(rt; engine.chunks.len() == 1);
+    assert!(rt; engine.sent == sent);
+}
+
+#[test]
+fn faults_on_the_way_are_mended(rt: HostRuntime) {
+    let alloc = rt.alloc();
+    expect_appended_once(&rt, alloc, &[Delivery::LostRequest], 4);
+    expect_appended_once(&rt, alloc, &[Delivery::LostAnswer], 4);
+    expect_appended_once(&rt, alloc, &[Delivery::Twice], 3);
+    expect_appended_once(&rt, alloc, &[Delivery::Held], 4);
+    expect_appended_once(&rt, alloc, &[Delivery::Held, Delivery::BehindHeld], 4);
+    expect_appended_once(&rt, alloc, &[Delivery::Held, Delivery::BeforeHeld], 4);
+    let twice = [Delivery::LostRequest, Delivery::LostAnswer];
+    expect_appended_once(&rt, alloc, &twice, 5);
+}
+
+#[test]
+fn late_message_changes_nothing(rt: HostRuntime) {
+    let alloc = rt.alloc();
+    let late = [Delivery::Held, Delivery::Whole, Delivery::BehindHeld];
+    let mut journal = opened(alloc, &late).expect(&rt, "a journal");
+    let one = texts(alloc, b"one").expect(&rt, "memory");
+    assert!(rt; journal.append(0, &one) == Ok(1));
+    assert!(rt; journal.append(1, &one) == Ok(2));
+    let engine = journal.into_storage().into_engine();
+    expect_head(&rt, engine.head, 2, 118, 2);
+    assert!(rt; engine.chunks.len() == 2);
+}
+
+#[test]
+fn overtaken_owner_appends_nothing(rt: HostRuntime) {
+    let alloc = rt.alloc();
+    let claim = [Delivery::BehindClaim(SECOND)];
+    let mut journal = opened(alloc, &claim).expect(&rt, "a journal");
+    let one = texts(alloc, b"one").expect(&rt, "memory");
+    assert!(rt; journal.append(0, &one) == Err(AppendFault::Unknown));
+    assert!(rt; journal.append(0, &one) == Err(AppendFault::Unknown));
+    assert!(rt; journal.sync().is_err());
+    let engine = journal.into_storage().into_engine();
+    expect_head(&rt, engine.head, 0, 0, 0);
+    assert!(rt; engine.chunks.is_empty() && engine.sent == 3);
+}
+
+#[test]
+fn overtaken_owner_syncs_nothing(rt: HostRuntime) {
+    let alloc = rt.alloc();
+    let claim = [Delivery::BehindClaim(SECOND)];
+    let mut journal = opened(alloc, &claim).expect(&rt, "a journal");
+    assert!(rt; journal.sync().is_err());
+    let mut journal = opened(alloc, &claim).expect(&rt, "a journal");
+    assert!(rt; journal.read_from(0).is_err());
+}
+
+#[test]
+fn silence_is_no_answer(rt: HostRuntime) {
+    let alloc = rt.alloc();
+    let lost = [
+        Delivery::LostAnswer,
+        Delivery::LostRequest,
+        Delivery::LostRequest,
+    ];
+    let mut journal = opened(alloc, &lost).expect(&rt, "a journal");
+    let one = texts(alloc, b"one").expect(&rt, "memory");
+    assert!(rt; journal.append(0, &one) == Err(AppendFault::Unknown));
+    assert!(rt; journal.append(0, &one) == Err(AppendFault::Unknown));
+    let engine = journal.into_storage().into_engine();
+    // it came, and nothing that was sent behind it did
+    expect_head(&rt, engine.head, 1, 59, 1);
+    assert!(rt; engine.sent == 5);
+}
+
+// 44 + 12 + 300,000 bytes: a chunk of 262,144 and one of 37,912.
+#[test]
+fn long_groups_have_several_chunks(rt: HostRuntime) {
+    let alloc = rt.alloc();
+    let mut journal = opened(alloc, &[]).expect(&rt, "a journal");
+    let long = long_text(alloc, 300_000).expect(&rt, "memory");
+    assert!(rt; journal.append(0, &long) == Ok(1));
+    let found = journal.read_from(0).expect(&rt, "payloads");
+    assert!(rt; found.len() == 1 && found[0].len() == 300_000);
+    let engine = journal.into_storage().into_engine();
+    expect_head(&rt, engine.head, 2, 300_056, 1);
+    assert!(rt; engine.chunks.len() == 2);
+    assert!(rt; engine.chunks[0].bytes.len() == 37_912 && engine.chunks[0].key.index == 1);
+    assert!(rt; engine.chunks[1].bytes.len() == 262_144 && engine.chunks[1].key.index == 0);
+}
+
+#[test]
+fn group_without_its_last_chunk_is_not_there(rt: HostRuntime) {
+    let alloc = rt.alloc();
+    let lost = [
+        Delivery::Whole,
+        Delivery::LostRequest,
+        Delivery::LostRequest,
+        Delivery::LostRequest,
+    ];
+    let mut journal = opened(alloc, &lost).expect(&rt, "a journal");
+    let long = long_text(alloc, 300_000).expect(&rt, "memory");
+    assert!(rt; journal.append(0, &long) == Err(AppendFault::Unknown));
+    let engine = journal.into_storage().into_engine();
+    expect_head(&rt, engine.head, 0, 0, 0);
+    assert!(rt; engine.chunks.len() == 1);
+}
+
+/// Checks that no journal is opened where the head of a register without chunks says that its list ends so.
+fn expect_refused(rt: &impl Abort, alloc: Global, end: LogEnd) {
+    let extent = Extent {
+        end,
+        ..FIRST_HEAD.extent
+    };
+    let head = Head {
+        extent,
+        ..FIRST_HEAD
+    };
+    let tenure = Tenure { owner: FIRST, head };
+    let engine = MemoryEngine::new(alloc, FIRST, head, Vec::new(alloc));
+    let storage = RemoteStorage::new(alloc, engine, tenure, 3);
+    assert!(rt; matches!(Journal::open(alloc, storage), Err(JournalOpenFault::Failed)));
+}
+
+// A list of no payloads ends at 0 with the checksum 0.
+#[test]
+fn head_that_is_not_of_the_bytes_is_refused(rt: HostRuntime) {
+    let alloc = rt.alloc();
+    let end = LogEnd::of_empty_log();
+    expect_refused(&rt, alloc, LogEnd { position: 1, ..end });
+    expect_refused(&rt, alloc, LogEnd { sum: 1, ..end });
+    expect_refused(&rt, alloc, LogEnd { count: 1, ..end });
+}
