@@ -101,7 +101,7 @@ author_succeeds drafts publications (author.DropDraft kind id) request =
     carried (λ after. (after.1, publications)) (drop_draft drafts kind id) (succeeds_if (has_draft drafts kind id) _ _ refl)
 author_succeeds drafts publications author.Publish request = succeeds_on (publication_asked drafts publications request) _ (λ p. refl)
 
-call_succeeds : (w : State) (called : Call) (request : Request) → Succeeds (call_does w called request)
+pub call_succeeds : (w : State) (called : Call) (request : Request) → Succeeds (call_does w called request)
 call_succeeds w (call.Author own) request = carried _ (author_does w.drafts w.publications own request) (author_succeeds w.drafts w.publications own request)
 call_succeeds w (call.Operator place own) request =
     succeeds_on (or_code Token (slice_get w.configuration.operators place)) _ (λ operator. succeeds_on (or_code Token (slice_get w.fleets place)) _ (λ rows.

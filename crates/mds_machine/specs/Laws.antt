@@ -30,6 +30,12 @@ RefusedLeaves =
     (w : State) (request : Request) (reply : Reply) (next : State)
     → Step w request reply next → reply.status ≢ 200 → next ≡ w
 
+-- a reply with the status 503 says that memory ran out
+abbrev pub MemoryAloneIsUnavailable : Type 0
+MemoryAloneIsUnavailable =
+    (w : State) (request : Request) (reply : Reply) (next : State)
+    → Step w request reply next → reply.status ≡ 503 → reply ≡ refused NoMemory
+
 -- a request of an operator keeps the drafts, and leads to a state that agrees with the old one for every other operator
 abbrev pub LeavesOthers : Type 0
 LeavesOthers =

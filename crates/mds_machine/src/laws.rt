@@ -1,5 +1,5 @@
 //! Laws of the machine. Each function's contract is the law; the functions do nothing.
-ghost use Rattle.mds_machine.specs.Laws.{IsTotal, IsDetermined, RefusedLeaves, LeavesOthers, LeavesRows, HasOneAnswer, GoesByHistory, BeginsKeyed};
+ghost use Rattle.mds_machine.specs.Laws.{IsTotal, IsDetermined, RefusedLeaves, MemoryAloneIsUnavailable, LeavesOthers, LeavesRows, HasOneAnswer, GoesByHistory, BeginsKeyed};
 ghost use Rattle.mds_machine.specs.Isolation.{IsIsolatedThroughout, IsMeantThroughout, IsMeantFromNew};
 
 /// Every request has a possible reply.
@@ -15,6 +15,11 @@ pub fn is_determined()
 /// A reply other than a success doesn't change the state.
 pub fn refusal_keeps_state()
     ensures { RefusedLeaves }
+{}
+
+/// A request is answered 503 where memory runs out, and nowhere else: no other refusal has that status.
+pub fn memory_alone_is_unavailable()
+    ensures { MemoryAloneIsUnavailable }
 {}
 
 /// A request of an operator doesn't change the publications, the drafts or the rows of another operator.

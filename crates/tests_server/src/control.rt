@@ -47,143 +47,174 @@ fn heading_in(alloc: Global, lines: &str) -> Result<ControlHead, AllocError> {
     Ok(control_head_of(lines.as_bytes(), &hosts, true))
 }
 
+/// Heads, and what is answered to each.
+const HEADS: &[(&str, ControlAnswer)] = &[
+    (
+        "GET /healthz HTTP/1.1\r\nhOsT: 127.0.0.1:9090\r\n\r\n",
+        ControlAnswer::Healthy,
+    ),
+    (
+        "GET /healthz HTTP/1.1\r\nhOsT: 127.0.0.1\r\n\r\n",
+        ControlAnswer::Healthy,
+    ),
+    (
+        "GET /healthz HTTP/1.1\r\nhOsT: 0.0.0.0:9090\r\n\r\n",
+        ControlAnswer::Healthy,
+    ),
+    (
+        "GET /healthz HTTP/1.1\r\nhOsT: localhost:9090\r\n\r\n",
+        ControlAnswer::Healthy,
+    ),
+    (
+        "GET /healthz HTTP/1.1\r\nhOsT: LOCALHOST \t\r\n\r\n",
+        ControlAnswer::Healthy,
+    ),
+    (
+        "GET /healthz HTTP/1.1\r\nhOsT: city.example\r\n\r\n",
+        ControlAnswer::Healthy,
+    ),
+    (
+        "GET /healthz HTTP/1.1\r\nhOsT: city.example:9090\r\n\r\n",
+        ControlAnswer::Healthy,
+    ),
+    // Another host.
+    (
+        "POST /stop HTTP/1.1\r\nhost: \r\n\r\n",
+        ControlAnswer::Forbidden,
+    ),
+    (
+        "POST /stop HTTP/1.1\r\nhost: evil.example\r\n\r\n",
+        ControlAnswer::Forbidden,
+    ),
+    (
+        "POST /stop HTTP/1.1\r\nhost: evil.example:9090\r\n\r\n",
+        ControlAnswer::Forbidden,
+    ),
+    (
+        "POST /stop HTTP/1.1\r\nhost: 127.0.0.1:9091\r\n\r\n",
+        ControlAnswer::Forbidden,
+    ),
+    (
+        "POST /stop HTTP/1.1\r\nhost: 127.0.0.1:\r\n\r\n",
+        ControlAnswer::Forbidden,
+    ),
+    (
+        "POST /stop HTTP/1.1\r\nhost: 127.0.0.2:9090\r\n\r\n",
+        ControlAnswer::Forbidden,
+    ),
+    (
+        "POST /stop HTTP/1.1\r\nhost: localhost.evil.example\r\n\r\n",
+        ControlAnswer::Forbidden,
+    ),
+    (
+        "POST /stop HTTP/1.1\r\nhost: city.example.\r\n\r\n",
+        ControlAnswer::Forbidden,
+    ),
+    (
+        "POST /stop HTTP/1.1\r\nhost: 127.0.0.1:9090, evil.example\r\n\r\n",
+        ControlAnswer::Forbidden,
+    ),
+    // One host is wanted, of HTTP/1.1 at least.
+    ("GET /healthz HTTP/1.1\r\n\r\n", ControlAnswer::Unread),
+    ("GET /healthz HTTP/1.0\r\n\r\n", ControlAnswer::Healthy),
+    (
+        "GET /healthz HTTP/1.1\r\nhost: localhost\r\nHost: localhost\r\n\r\n",
+        ControlAnswer::Unread,
+    ),
+    (
+        "GET /healthz HTTP/1.0\r\nhost: evil.example\r\n\r\n",
+        ControlAnswer::Forbidden,
+    ),
+    (
+        "GET /healthz HTTP/1.1\nhost: localhost\n\n",
+        ControlAnswer::Healthy,
+    ),
+];
+
 #[test]
-fn lets_in_who_names_its_host(rt: HostRuntime) -> Result<(), Fail> {
-    for host in [
-        "127.0.0.1:9090",
-        "127.0.0.1",
-        "0.0.0.0:9090",
-        "localhost:9090",
-        "LOCALHOST \t",
-        "city.example",
-        "city.example:9090",
-    ] {
-        let lines = format!(in rt.alloc(); "GET /healthz HTTP/1.1\r\nhOsT: {host}\r\n\r\n")?;
-        let found = heading_in(rt.alloc(), &lines)?;
-        assert_eq!(rt;
-            found,
-            ControlHead::Whole(reply(ControlAnswer::Healthy)),
-            "{host}"
-        );
+fn heads_are_answered(rt: HostRuntime) -> Result<(), Fail> {
+    for &(lines, wanted) in HEADS {
+        let found = heading_in(rt.alloc(), lines)?;
+        assert!(rt; found == ControlHead::Whole(reply(wanted)), "{lines}");
     }
     Ok(())
 }
 
-#[test]
-fn refuses_another_host(rt: HostRuntime) -> Result<(), Fail> {
-    for host in [
-        "",
-        "evil.example",
-        "evil.example:9090",
-        "127.0.0.1:9091",
-        "127.0.0.1:",
-        "127.0.0.2:9090",
-        "localhost.evil.example",
-        "city.example.",
-        "127.0.0.1:9090, evil.example",
-    ] {
-        let lines = format!(in rt.alloc(); "POST /stop HTTP/1.1\r\nhost: {host}\r\n\r\n")?;
-        let found = heading_in(rt.alloc(), &lines)?;
-        assert_eq!(rt;
-            found,
-            ControlHead::Whole(reply(ControlAnswer::Forbidden)),
-            "{host}"
-        );
-    }
-    Ok(())
-}
+/// Fields that a browser sends for a page.
+const FIELDS_OF_A_PAGE: &[&str] = &[
+    "POST /stop HTTP/1.1\r\nhost: localhost\r\nOrigin: http://evil.example\r\n\r\n",
+    "POST /stop HTTP/1.1\r\nhost: localhost\r\nORIGIN: null\r\n\r\n",
+    "POST /stop HTTP/1.1\r\nhost: localhost\r\norigin:\r\n\r\n",
+    "POST /stop HTTP/1.1\r\nhost: localhost\r\nSec-Fetch-Site: cross-site\r\n\r\n",
+    "POST /stop HTTP/1.1\r\nhost: localhost\r\nsec-fetch-site: same-origin\r\n\r\n",
+];
 
+/// A page is refused whatever the hosts.
 #[test]
 fn refuses_a_page(rt: HostRuntime) -> Result<(), Fail> {
-    for field in [
-        "Origin: http://evil.example",
-        "ORIGIN: null",
-        "origin:",
-        "Sec-Fetch-Site: cross-site",
-        "sec-fetch-site: same-origin",
-    ] {
-        let lines = format!(in rt.alloc();
-            "POST /stop HTTP/1.1\r\nhost: localhost\r\n{field}\r\n\r\n"
-        )?;
-        let found = heading_in(rt.alloc(), &lines)?;
-        assert_eq!(rt;
-            found,
-            ControlHead::Whole(reply(ControlAnswer::Forbidden)),
-            "{field}"
+    for lines in FIELDS_OF_A_PAGE {
+        let found = heading_in(rt.alloc(), lines)?;
+        assert!(rt;
+            found == ControlHead::Whole(reply(ControlAnswer::Forbidden)),
+            "{lines}"
         );
         let anywhere = control_head_of(lines.as_bytes(), &Hosts::Any, true);
-        assert_eq!(rt;
-            anywhere,
-            ControlHead::Whole(reply(ControlAnswer::Forbidden)),
-            "{field}"
-        );
+        assert!(rt; anywhere == found, "{lines}");
     }
     Ok(())
 }
 
+/// At a Unix socket no host is wanted.
 #[test]
-fn wants_one_host(rt: HostRuntime) -> Result<(), Fail> {
-    for (lines, wanted) in [
-        ("GET /healthz HTTP/1.1\r\n\r\n", ControlAnswer::Unread),
-        ("GET /healthz HTTP/1.0\r\n\r\n", ControlAnswer::Healthy),
-        (
-            "GET /healthz HTTP/1.1\r\nhost: localhost\r\nHost: localhost\r\n\r\n",
-            ControlAnswer::Unread,
-        ),
-        (
-            "GET /healthz HTTP/1.0\r\nhost: evil.example\r\n\r\n",
-            ControlAnswer::Forbidden,
-        ),
-    ] {
-        let found = heading_in(rt.alloc(), lines)?;
-        assert_eq!(rt; found, ControlHead::Whole(reply(wanted)), "{lines}");
-        let anywhere = control_head_of(b"GET /healthz HTTP/1.1\r\n\r\n", &Hosts::Any, true);
-        assert_eq!(rt; anywhere, ControlHead::Whole(reply(ControlAnswer::Healthy)));
-    }
-    Ok(())
+fn wants_no_host_where_any_is_right(rt: HostRuntime) {
+    let anywhere = control_head_of(b"GET /healthz HTTP/1.1\r\n\r\n", &Hosts::Any, true);
+    assert!(rt; anywhere == ControlHead::Whole(reply(ControlAnswer::Healthy)));
 }
+
+/// Heads of HEAD, and what is answered to each.
+const BARE_HEADS: &[(&str, ControlAnswer)] = &[
+    ("HEAD /healthz HTTP/1.0\r\n\r\n", ControlAnswer::Healthy),
+    ("HEAD /lost HTTP/1.0\r\n\r\n", ControlAnswer::NotFound),
+    ("HEAD /healthz HTTP/1.1\r\n\r\n", ControlAnswer::Unread),
+];
 
 /// HEAD is answered as GET, without a body (RFC 9110, section 9.3.2).
 #[test]
 fn sends_no_body_to_a_head(rt: HostRuntime) -> Result<(), Fail> {
-    for (lines, answer) in [
-        ("HEAD /healthz HTTP/1.0\r\n\r\n", ControlAnswer::Healthy),
-        ("HEAD /lost HTTP/1.0\r\n\r\n", ControlAnswer::NotFound),
-        ("HEAD /healthz HTTP/1.1\r\n\r\n", ControlAnswer::Unread),
-    ] {
+    for &(lines, answer) in BARE_HEADS {
         let found = heading_in(rt.alloc(), lines)?;
         let wanted = ControlReply {
             answer,
             has_body: false,
         };
-        assert_eq!(rt; found, ControlHead::Whole(wanted), "{lines}");
+        assert!(rt; found == ControlHead::Whole(wanted), "{lines}");
         assert!(rt; reply_due(found, 26, false) == Some(wanted));
     }
     Ok(())
 }
 
 #[test]
-fn ends_a_head_at_line_feeds(rt: HostRuntime) -> Result<(), Fail> {
-    let whole = heading_in(rt.alloc(), "GET /healthz HTTP/1.1\nhost: localhost\n\n")?;
-    assert_eq!(rt; whole, ControlHead::Whole(reply(ControlAnswer::Healthy)));
+fn heads_that_are_not_whole(rt: HostRuntime) -> Result<(), Fail> {
     let part = heading_in(rt.alloc(), "GET /healthz HTTP/1.1\nhost: localhost\n")?;
-    assert_eq!(rt; part, ControlHead::Partial);
+    assert!(rt; part == ControlHead::Partial);
     let broken = heading_in(rt.alloc(), "GET\r\n\r\n")?;
-    assert_eq!(rt; broken, ControlHead::Broken);
+    assert!(rt; broken == ControlHead::Broken);
     Ok(())
 }
 
+/// Heads that aren't waited for, the bytes of each, and whether it comes no further.
+const UNREAD_HEADS: &[(ControlHead, usize, bool)] = &[
+    (ControlHead::Partial, 8193, false),
+    (ControlHead::Partial, 10, true),
+    (ControlHead::Broken, 10, false),
+];
+
 #[test]
-fn waits_for_the_rest_of_a_head(rt: HostRuntime) -> Result<(), Fail> {
+fn waits_for_the_rest_of_a_head(rt: HostRuntime) {
     assert!(rt; reply_due(ControlHead::Partial, 8192, false).is_none());
-    for (heading, count, is_over) in [
-        (ControlHead::Partial, 8193, false),
-        (ControlHead::Partial, 10, true),
-        (ControlHead::Broken, 10, false),
-    ] {
+    for &(heading, count, is_over) in UNREAD_HEADS {
         assert!(rt; reply_due(heading, count, is_over) == Some(reply(ControlAnswer::Unread)));
     }
-    Ok(())
 }
 
 /// The response to one head.
@@ -201,40 +232,72 @@ fn reply_to<R: ControlClientRuntime>(
 
 const HEALTH: &str = "GET /healthz HTTP/1.1\r\nhost: localhost\r\n\r\n";
 
+/// Whether the response to this head begins and ends so.
+fn is_replied<R: ControlClientRuntime>(
+    rt: &R,
+    address: SocketAddr,
+    head: &str,
+    begin: &[u8],
+    end: &[u8],
+) -> io::Result<bool> {
+    let reply = reply_to(rt, address, head)?;
+    Ok(reply.starts_with(begin) && reply.ends_with(end))
+}
+
+/// Requests that are refused, and how the response to each begins.
+const REFUSED: &[(&str, &[u8])] = &[
+    ("GET /lost HTTP/1.0\r\n\r\n", b"HTTP/1.1 404 "),
+    ("GET /stop HTTP/1.0\r\n\r\n", b"HTTP/1.1 405 "),
+    ("GET /stop\r\n\r\n", b"HTTP/1.1 400 "),
+    (
+        "POST /stop HTTP/1.1\r\nhost: evil.example\r\n\r\n",
+        b"HTTP/1.1 403 ",
+    ),
+];
+
+/// Whether each of these requests is refused.
+fn are_refused<R: ControlClientRuntime>(rt: &R, address: SocketAddr) -> io::Result<bool> {
+    for &(head, begin) in REFUSED {
+        if !is_replied(rt, address, head, begin, b"")? {
+            return Ok(false);
+        }
+    }
+    Ok(true)
+}
+
+/// Whether HEAD is answered as GET is, without the body.
+fn is_bare<R: ControlClientRuntime>(rt: &R, address: SocketAddr) -> io::Result<bool> {
+    let served = reply_to(rt, address, HEALTH)?;
+    let bare = reply_to(rt, address, "HEAD /healthz HTTP/1.0\r\n\r\n")?;
+    Ok(served.strip_suffix(b"ok\n".as_slice()) == Some(bare.as_slice()))
+}
+
+/// The head of a request for the metrics.
+const METRICS: &str = "GET /metrics HTTP/1.0\r\n\r\n";
+
+/// The last line of the metrics where nothing was answered.
+const LAST_COUNT: &[u8] = b"\nruffletuff_answer_milliseconds_count 0\n";
+
+/// Whether each request has its response while the server serves.
+fn are_served<R: ControlClientRuntime>(rt: &R, address: SocketAddr) -> io::Result<bool> {
+    let is_healthy = is_replied(rt, address, HEALTH, b"HTTP/1.1 200 ", b"\r\n\r\nok\n")?;
+    let is_bare = is_bare(rt, address)?;
+    let is_counted = is_replied(rt, address, METRICS, b"HTTP/1.1 200 ", LAST_COUNT)?;
+    Ok(is_healthy && is_bare && is_counted && are_refused(rt, address)?)
+}
+
 /// Whether each request has its response.
 fn are_right<R: ControlClientRuntime>(
     rt: &R,
     address: SocketAddr,
     control: &Control,
 ) -> io::Result<bool> {
-    let early = reply_to(rt, address, HEALTH)?;
+    let is_early = is_replied(rt, address, HEALTH, b"HTTP/1.1 503 ", b"")?;
     control.set_serving();
-    let served = reply_to(rt, address, HEALTH)?;
-    let bare = reply_to(rt, address, "HEAD /healthz HTTP/1.0\r\n\r\n")?;
-    let counted = reply_to(rt, address, "GET /metrics HTTP/1.0\r\n\r\n")?;
-    let lost = reply_to(rt, address, "GET /lost HTTP/1.0\r\n\r\n")?;
-    let wrong = reply_to(rt, address, "GET /stop HTTP/1.0\r\n\r\n")?;
-    let unread = reply_to(rt, address, "GET /stop\r\n\r\n")?;
-    let foreign = reply_to(
-        rt,
-        address,
-        "POST /stop HTTP/1.1\r\nhost: evil.example\r\n\r\n",
-    )?;
+    let are_served = are_served(rt, address)?;
     let stops = stop(rt, format!(in rt.alloc(); "{address}")?.as_str())?;
-    let late = reply_to(rt, address, HEALTH)?;
-    Ok(
-        early.starts_with(b"HTTP/1.1 503 ")
-            && served.starts_with(b"HTTP/1.1 200 ")
-            && served.ends_with(b"\r\n\r\nok\n")
-            && served.strip_suffix(b"ok\n".as_slice()) == Some(bare.as_slice())
-            && counted.ends_with(b"\nruffletuff_answer_milliseconds_count 0\n")
-            && lost.starts_with(b"HTTP/1.1 404 ")
-            && wrong.starts_with(b"HTTP/1.1 405 ")
-            && unread.starts_with(b"HTTP/1.1 400 ")
-            && foreign.starts_with(b"HTTP/1.1 403 ")
-            && stops
-            && late.starts_with(b"HTTP/1.1 503 "),
-    )
+    let is_late = is_replied(rt, address, HEALTH, b"HTTP/1.1 503 ", b"")?;
+    Ok(is_early && are_served && stops && is_late)
 }
 
 #[test]
@@ -389,9 +452,27 @@ ruffletuff_answer_milliseconds_count 0\n\
 fn tells_each_line(rt: HostRuntime) -> Result<(), Fail> {
     let counters = zero_counters(rt.alloc())?;
     let text = metrics(rt.alloc(), &counters.lines(rt.alloc())?)?;
-    assert_eq!(rt; text.as_str(), NOTHING_COUNTED);
+    assert!(rt; text.as_str() == NOTHING_COUNTED);
     Ok(())
 }
+
+/// Lines of the metrics behind a publication that failed, a question and a change that was refused.
+const COUNTED: &[&str] = &[
+    "ruffletuff_requests_total{call=\"publish\",status=\"5xx\"} 1",
+    "ruffletuff_requests_total{call=\"read\",status=\"2xx\"} 1",
+    "ruffletuff_requests_total{call=\"change\",status=\"2xx\"} 0",
+    "ruffletuff_requests_total{call=\"change\",status=\"4xx\"} 1",
+    "ruffletuff_answer_milliseconds_bucket{le=\"10\"} 0",
+    "ruffletuff_answer_milliseconds_bucket{le=\"25\"} 1",
+    "ruffletuff_answer_milliseconds_bucket{le=\"1000\"} 1",
+    "ruffletuff_answer_milliseconds_bucket{le=\"+Inf\"} 3",
+    "ruffletuff_answer_milliseconds_sum 4020",
+    "ruffletuff_answer_milliseconds_count 3",
+    "# TYPE ruffletuff_syncs_total counter",
+    "ruffletuff_syncs_total 3",
+    "ruffletuff_pending_replies 1",
+    "ruffletuff_revision 5",
+];
 
 #[test]
 fn counts_in_its_rows(rt: HostRuntime) -> Result<(), Fail> {
@@ -404,46 +485,39 @@ fn counts_in_its_rows(rt: HostRuntime) -> Result<(), Fail> {
     counters.set(Figure::Revision, 5);
     counters.add(Figure::Pending, 2);
     counters.subtract(Figure::Pending, 1);
-    for line in [
-        "ruffletuff_requests_total{call=\"publish\",status=\"5xx\"} 1",
-        "ruffletuff_requests_total{call=\"read\",status=\"2xx\"} 1",
-        "ruffletuff_requests_total{call=\"change\",status=\"2xx\"} 0",
-        "ruffletuff_requests_total{call=\"change\",status=\"4xx\"} 1",
-        "ruffletuff_answer_milliseconds_bucket{le=\"10\"} 0",
-        "ruffletuff_answer_milliseconds_bucket{le=\"25\"} 1",
-        "ruffletuff_answer_milliseconds_bucket{le=\"1000\"} 1",
-        "ruffletuff_answer_milliseconds_bucket{le=\"+Inf\"} 3",
-        "ruffletuff_answer_milliseconds_sum 4020",
-        "ruffletuff_answer_milliseconds_count 3",
-        "# TYPE ruffletuff_syncs_total counter",
-        "ruffletuff_syncs_total 3",
-        "ruffletuff_pending_replies 1",
-        "ruffletuff_revision 5",
-    ] {
+    for line in COUNTED {
         assert!(rt; has_line(alloc, &counters, line)?, "{line}");
     }
     Ok(())
 }
 
-#[test]
-fn tells_connections_and_vehicles(rt: HostRuntime) -> Result<(), Fail> {
-    let alloc = rt.alloc();
+/// Lines of the metrics of a server with three connections and two operators.
+const OF_TWO_FLEETS: &[&str] = &[
+    "# TYPE ruffletuff_connections gauge",
+    "ruffletuff_connections 3",
+    "# TYPE ruffletuff_vehicles gauge",
+    "ruffletuff_vehicles{operator=\"3b0f6c9e-1d7a-4d2b-8f35-7a9d0a4c1101\"} 7",
+    "ruffletuff_vehicles{operator=\"5d8e1f70-62c4-4e9b-b0a6-2f1c9e3d2201\"} 250000",
+];
+
+/// Counters of a server with so many connections and two operators.
+fn counters_of_two(alloc: Global, connections: Arc<AtomicU64>) -> Result<Counters, AllocError> {
     let mut fleets = Vec::new(alloc);
     fleets.push(Fleet::new(alloc, "3b0f6c9e-1d7a-4d2b-8f35-7a9d0a4c1101")?)?;
     fleets.push(Fleet::new(alloc, "5d8e1f70-62c4-4e9b-b0a6-2f1c9e3d2201")?)?;
+    Counters::new(alloc, connections, fleets)
+}
+
+#[test]
+fn tells_connections_and_vehicles(rt: HostRuntime) -> Result<(), Fail> {
+    let alloc = rt.alloc();
     let connections = Arc::new(alloc, AtomicU64::new(0))?;
-    let counters = Counters::new(alloc, Arc::try_clone(&connections)?, fleets)?;
+    let counters = counters_of_two(alloc, Arc::try_clone(&connections)?)?;
     connections.store(3, Ordering::SeqCst);
     for (fleet, count) in counters.fleets().iter().zip([7, 250_000]) {
         fleet.vehicles()?.store(count, Ordering::SeqCst);
     }
-    for line in [
-        "# TYPE ruffletuff_connections gauge",
-        "ruffletuff_connections 3",
-        "# TYPE ruffletuff_vehicles gauge",
-        "ruffletuff_vehicles{operator=\"3b0f6c9e-1d7a-4d2b-8f35-7a9d0a4c1101\"} 7",
-        "ruffletuff_vehicles{operator=\"5d8e1f70-62c4-4e9b-b0a6-2f1c9e3d2201\"} 250000",
-    ] {
+    for line in OF_TWO_FLEETS {
         assert!(rt; has_line(alloc, &counters, line)?, "{line}");
     }
     Ok(())
