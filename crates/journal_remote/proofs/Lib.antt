@@ -6,3 +6,4 @@ pub mod Sending
 pub mod Laying
 pub mod Known
 pub mod Claimed
+pub mod Memory

@@ -5,3 +5,5 @@ pub mod Ends
 pub mod Kept
 pub mod Budget
 pub mod Watch
+pub mod Protocol
+pub mod Memory

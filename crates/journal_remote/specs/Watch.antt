@@ -1,5 +1,5 @@
 -- When a standby claims a register, and when its owner shows that it lives.
-use Rattle.std.specs.Prelude.{ℕ, ◌-◌, ◌==◌, ◌&&◌, ◌||◌, nat_le, not, Bool, true, false, if◌then◌else◌, Option, Some, None}
+use Rattle.std.specs.Prelude.{ℕ, ◌-◌, ◌==◌, ◌&&◌, ◌||◌, nat_le, Bool, if◌then◌else◌, Option, Some, None}
 use Rattle.journal_register.specs.declared.owner.Owner.{Owner}
 use Rattle.journal_register.specs.declared.head.Extent.{Extent}
 use Rattle.journal_register.specs.declared.look.Look.{Look}

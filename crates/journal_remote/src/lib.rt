@@ -7,6 +7,8 @@ mod engine;
 mod fetch;
 mod group;
 mod memory_engine;
+mod memory_register;
+mod protocol;
 mod remote_storage;
 mod send;
 mod tenure;
@@ -14,7 +16,8 @@ mod watch;
 
 pub use budget::{LogBudget, LogUsage};
 pub use engine::Engine;
-pub use memory_engine::{Delivery, MemoryChunk, MemoryEngine};
+pub use memory_engine::{Delivery, MemoryEngine, MemoryMessage, memory_storage};
+pub use memory_register::{ChunkWrite, MemoryRegister};
 pub use remote_storage::RemoteStorage;
 pub use tenure::{MOST_CHUNK, Tenure};
 pub use watch::{Watch, is_beat_due};

@@ -1,9 +1,16 @@
-//! A register in memory, for tests.
+//! An engine in memory, for tests.
+ghost use Rattle.std.specs.Prelude.{◌≡◌, ◌⊎◌, true, false, [], IsSome};
+ghost use Rattle.journal_register.specs.Register.{Message};
+ghost use Rattle.journal_remote.specs.Memory.{register_of, is_sent, any_owner};
+ghost use Rattle.journal_remote.specs.Passing.{Goes, Exchanges};
+
 use crate::engine::Engine;
+use crate::memory_register::MemoryRegister;
+use crate::remote_storage::RemoteStorage;
+use crate::tenure::Tenure;
 use journal_file::StorageFault;
-use journal_register::{Answer, ChunkKey, Head, Look, Owner, Transaction};
-use std::alloc::{AllocError, Global};
-use std::mem;
+use journal_register::{Answer, ChunkKey, Look, Transaction};
+use std::alloc::Global;
 
 /// How a message is carried to the register in memory, and its answer back.
 #[derive(Clone, Copy, Debug, PartialEq, Eq)]
@@ -14,70 +21,82 @@ pub enum Delivery {
     LostRequest,
     /// The message comes, and its answer is lost.
     LostAnswer,
-    /// The message comes twice, and the answer to the first comes back.
+    /// The message comes, and its answer comes back; it comes again before the next one.
     Twice,
-    /// The message is held back, and nothing comes back.
+    /// The message is held back in place of any other, and nothing comes back.
     Held,
-    /// All that was held back comes first, and then the message, whose answer comes back.
+    /// The one that was held back comes first, and then the message, whose answer comes back.
     BehindHeld,
-    /// The message comes, and its answer comes back; then all that was held back comes.
+    /// The message comes, and its answer comes back; the one that was held back comes before the next one.
     BeforeHeld,
-    /// Another owner's claim comes first, and then the message, whose answer comes back.
-    BehindClaim(Owner),
+    /// Another owner, with this nonce, claims first; then the message comes, and its answer comes back.
+    BehindClaim(u64),
 }
 
-/// A chunk of the register in memory.
+/// A message that was sent.
 #[derive(Debug, Drop)]
-pub struct MemoryChunk {
-    /// Where it stands.
-    pub key: ChunkKey,
-    /// Its bytes.
+pub struct MemoryMessage {
+    /// The transaction.
+    pub transaction: Transaction,
+    /// The bytes of the chunk that it puts, where it puts one.
     pub bytes: Vec<u8>,
 }
 
-/// A message that is held back.
-#[derive(Debug, Drop)]
-pub struct HeldMessage {
-    transaction: Transaction,
-    bytes: Vec<u8>,
-}
-
-/// A register in memory that carries messages by a fixed list; once it is used up, whole. Chunks that are deleted stay.
+/// A register in memory, and how messages are carried to it: by a fixed list; once that is used up, whole.
 #[derive(Debug, Drop)]
 pub struct MemoryEngine {
     alloc: Global,
-    /// Its revision.
-    pub revision: u64,
-    /// Its owner.
-    pub owner: Owner,
-    /// Its head.
-    pub head: Head,
-    /// Its chunks, the latest first.
-    pub chunks: Vec<MemoryChunk>,
-    /// How the next messages are carried, the next one first.
-    pub deliveries: Vec<Delivery>,
-    /// How many messages were sent.
+    /// The register.
+    pub register: MemoryRegister,
+    /// The transactions that were sent, in order.
+    pub messages: Vec<MemoryMessage>,
+    /// How many transactions were sent, looks made and chunks asked for.
     pub sent: u64,
-    held: Vec<HeldMessage>,
+    /// How the next ones are carried, the next one first.
+    deliveries: Vec<Delivery>,
+    /// Which message is held back.
+    held: Option<usize>,
+    /// Which message comes before the next one.
+    due: Option<usize>,
+}
+
+/// The storage of an owner over a register in memory, which has this owner and this head, and no chunks.
+pub fn memory_storage(
+    alloc: Global,
+    tenure: Tenure,
+    deliveries: Vec<Delivery>,
+    tries: u32,
+) -> RemoteStorage<MemoryEngine>
+    ensures tenure { result.tenure ≡ tenure }
+    ensures unbroken { result.is_broken ≡ false }
+{
+    let engine = MemoryEngine::new(alloc, tenure, deliveries);
+    RemoteStorage::new(alloc, engine, tenure, tries)
 }
 
 impl MemoryEngine {
-    /// A register with this owner and this head, and no chunks.
-    pub fn new(alloc: Global, owner: Owner, head: Head, deliveries: Vec<Delivery>) -> MemoryEngine {
+    /// An engine to which nothing was sent yet.
+    fn new(alloc: Global, tenure: Tenure, deliveries: Vec<Delivery>) -> MemoryEngine
+        ensures owner { result.register.owner ≡ tenure.owner }
+        ensures head { result.register.head ≡ tenure.head }
+        ensures silent { result.messages.items ≡ [] }
+    {
         MemoryEngine {
             alloc,
-            revision: 1,
-            owner,
-            head,
-            chunks: Vec::new(alloc),
-            deliveries,
+            register: MemoryRegister::new(alloc, tenure.owner, tenure.head),
+            messages: Vec::new(alloc),
             sent: 0,
-            held: Vec::new(alloc),
+            deliveries,
+            held: None,
+            due: None,
         }
     }
 
     /// How the next message is carried.
-    fn next_delivery(&mut self) -> Delivery {
+    fn next_delivery(&mut self) -> Delivery
+        ensures register { self.new.register ≡ self.old.register }
+        ensures messages { self.new.messages ≡ self.old.messages }
+    {
         self.sent = self.sent.saturating_add(1);
         if self.deliveries.is_empty() {
             Delivery::Whole
@@ -86,131 +105,161 @@ impl MemoryEngine {
         }
     }
 
-    /// Puts a chunk.
-    fn put(&mut self, key: ChunkKey, bytes: &[u8]) -> Result<(), AllocError> {
-        let bytes = Vec::from_slice(self.alloc, bytes)?;
-        self.chunks.insert(0, MemoryChunk { key, bytes })?;
-        Ok(())
-    }
-
-    /// The bytes of a chunk; `None` where it doesn't stand.
-    fn chunk(&self, key: ChunkKey) -> Option<&[u8]> {
-        for chunk in &self.chunks {
-            if chunk.key == key {
-                return Some(&chunk.bytes);
-            }
-        }
-        None
-    }
-
-    /// A message comes: it is done where all that it compares holds, and answered.
-    fn come(&mut self, transaction: &Transaction, bytes: &[u8]) -> Result<Answer, AllocError> {
-        let is_head = match transaction.head {
-            Some(head) => head.is(self.head),
-            None => true,
+    /// A message that was sent comes.
+    fn come_late(&mut self, index: Option<usize>)
+        ensures goes { Goes any_owner (is_sent self.new.messages.items) (register_of self.old.register) (register_of self.new.register) }
+        ensures messages { self.new.messages ≡ self.old.messages }
+    {
+        let Some(index) = index else {
+            return;
         };
-        if !transaction.owner.is(self.owner) || !is_head {
-            return Ok(Answer::Failed(self.owner, self.head));
-        }
-        if let Some(key) = transaction.chunk {
-            self.put(key, bytes)?;
-        }
-        self.owner = transaction.new_owner.unwrap_or(self.owner);
-        self.head = transaction.new_head.unwrap_or(self.head);
-        self.revision = self.revision.saturating_add(1);
-        Ok(Answer::Succeeded)
+        let Some(message) = self.messages.get(index) else {
+            return;
+        };
+        self.register
+            .come(self.alloc, &message.transaction, &message.bytes);
     }
 
-    /// All that was held back comes, in its order.
-    fn come_held(&mut self) -> Result<(), AllocError> {
-        let held = mem::replace(&mut self.held, Vec::new(self.alloc));
-        for message in &held {
-            self.come(&message.transaction, &message.bytes)?;
-        }
-        Ok(())
+    /// The message that is due comes, where one is.
+    pub fn settle(&mut self)
+        ensures goes { Goes any_owner (is_sent self.new.messages.items) (register_of self.old.register) (register_of self.new.register) }
+        ensures messages { self.new.messages ≡ self.old.messages }
+    {
+        let due = self.due;
+        self.due = None;
+        self.come_late(due);
     }
 
-    /// Carries a message, and its answer back.
-    fn carry(&mut self, transaction: &Transaction, bytes: &[u8]) -> Result<Answer, AllocError> {
-        match self.next_delivery() {
-            Delivery::Whole => self.come(transaction, bytes),
-            Delivery::LostRequest => Ok(Answer::Missing),
-            Delivery::LostAnswer => {
-                self.come(transaction, bytes)?;
-                Ok(Answer::Missing)
-            }
-            Delivery::Twice => {
-                let answer = self.come(transaction, bytes)?;
-                self.come(transaction, bytes)?;
-                Ok(answer)
-            }
-            Delivery::Held => {
-                let bytes = Vec::from_slice(self.alloc, bytes)?;
-                self.held.push(HeldMessage {
-                    transaction: *transaction,
-                    bytes,
-                })?;
-                Ok(Answer::Missing)
-            }
-            Delivery::BehindHeld => {
-                self.come_held()?;
-                self.come(transaction, bytes)
-            }
-            Delivery::BeforeHeld => {
-                let answer = self.come(transaction, bytes)?;
-                self.come_held()?;
-                Ok(answer)
-            }
-            Delivery::BehindClaim(owner) => {
-                self.owner = owner;
-                self.come(transaction, bytes)
-            }
+    /// The message that was held back comes, where one was.
+    fn come_held(&mut self)
+        ensures goes { Goes any_owner (is_sent self.new.messages.items) (register_of self.old.register) (register_of self.new.register) }
+        ensures messages { self.new.messages ≡ self.old.messages }
+    {
+        let held = self.held;
+        self.held = None;
+        self.come_late(held);
+    }
+
+    /// An owner with this nonce claims the register.
+    fn come_claim(&mut self, nonce: u64)
+        ensures goes { Goes any_owner (is_sent self.new.messages.items) (register_of self.old.register) (register_of self.new.register) }
+        ensures messages { self.new.messages ≡ self.old.messages }
+    {
+        if let Some(claim) = Transaction::claim(self.register.owner, nonce) {
+            self.register.come(self.alloc, &claim, &[]);
         }
+    }
+
+    /// What comes before a message that is carried so, or a question.
+    fn come_before(&mut self, delivery: Delivery)
+        ensures goes { Goes any_owner (is_sent self.new.messages.items) (register_of self.old.register) (register_of self.new.register) }
+        ensures messages { self.new.messages ≡ self.old.messages }
+    {
+        self.settle();
+        match delivery {
+            Delivery::BehindHeld => self.come_held(),
+            Delivery::BehindClaim(nonce) => self.come_claim(nonce),
+            _ => {}
+        }
+    }
+
+    /// Notes which message comes before the next one, behind a message with this index that was carried so.
+    fn note_due(&mut self, delivery: Delivery, index: usize)
+        ensures register { self.new.register ≡ self.old.register }
+        ensures messages { self.new.messages ≡ self.old.messages }
+    {
+        match delivery {
+            Delivery::Twice => self.due = Some(index),
+            Delivery::BeforeHeld => self.due = self.held,
+            Delivery::Held => self.held = Some(index),
+            _ => {}
+        }
+    }
+
+    /// Keeps a message that is sent, and returns its index; `None` without memory.
+    fn keep(&mut self, transaction: &Transaction, bytes: &[u8]) -> Option<usize>
+        ensures register { self.new.register ≡ self.old.register }
+        ensures sent { (m : Message) → is_sent self.new.messages.items m ≡ true → (m ≡ record { transaction = transaction.now; bytes = bytes.now }) ⊎ (is_sent self.old.messages.items m ≡ true) }
+        ensures kept { (m : Message) → is_sent self.old.messages.items m ≡ true → is_sent self.new.messages.items m ≡ true }
+        ensures last { IsSome result → is_sent self.new.messages.items (record { transaction = transaction.now; bytes = bytes.now }) ≡ true }
+    {
+        let Ok(bytes) = Vec::from_slice(self.alloc, bytes) else {
+            return None;
+        };
+        let index = self.messages.len();
+        let message = MemoryMessage {
+            transaction: *transaction,
+            bytes,
+        };
+        let Ok(()) = self.messages.push(message) else {
+            return None;
+        };
+        Some(index)
+    }
+
+    /// Carries a message that was sent to the register, and its answer back.
+    fn carry(&mut self, delivery: Delivery, transaction: &Transaction, bytes: &[u8]) -> Answer
+        requires sent { is_sent self.old.messages.items (record { transaction = transaction.now; bytes = bytes.now }) ≡ true }
+        ensures goes { Exchanges any_owner (is_sent self.new.messages.items) (record { transaction = transaction.now; bytes = bytes.now }) result (register_of self.old.register) (register_of self.new.register) }
+        ensures messages { self.new.messages ≡ self.old.messages }
+    {
+        self.come_before(delivery);
+        if is_lost(delivery) {
+            return Answer::Missing;
+        }
+        let answer = self.register.come(self.alloc, transaction, bytes);
+        if delivery == Delivery::LostAnswer {
+            return Answer::Missing;
+        }
+        answer
     }
 
     /// Carries a question; whether its answer comes back.
-    fn ask(&mut self) -> Result<bool, AllocError> {
-        match self.next_delivery() {
-            Delivery::LostRequest | Delivery::LostAnswer | Delivery::Held => Ok(false),
-            Delivery::Whole | Delivery::Twice => Ok(true),
-            Delivery::BehindHeld | Delivery::BeforeHeld => {
-                self.come_held()?;
-                Ok(true)
-            }
-            Delivery::BehindClaim(owner) => {
-                self.owner = owner;
-                Ok(true)
-            }
-        }
+    fn ask(&mut self) -> bool
+        ensures goes { Goes any_owner (is_sent self.new.messages.items) (register_of self.old.register) (register_of self.new.register) }
+        ensures messages { self.new.messages ≡ self.old.messages }
+    {
+        let delivery = self.next_delivery();
+        self.come_before(delivery);
+        !is_lost(delivery) && delivery != Delivery::LostAnswer
     }
 }
 
+/// Whether a message that is carried so doesn't come now.
+fn is_lost(delivery: Delivery) -> bool {
+    matches!(delivery, Delivery::LostRequest | Delivery::Held)
+}
+
 impl Engine for MemoryEngine {
-    ghost use Rattle.std.specs.Prelude.{true, false, None};
+    ghost use Rattle.std.specs.Prelude.{Some};
+    ghost use Rattle.journal_remote.specs.Memory.{register_of, is_sent, any_owner};
 
-    ghost register = { λ _. None };
+    ghost register = { λ e. Some (register_of e.register) };
 
-    ghost sends = { λ _ _. false };
+    ghost sends = { λ e. is_sent e.messages.items };
 
-    ghost is_own = { λ _ _. true };
+    ghost is_own = { λ _. any_owner };
 
     fn look(&mut self) -> Option<Look> {
-        let Ok(true) = self.ask() else {
+        if !self.ask() {
             return None;
-        };
+        }
         Some(Look {
             cluster: 1,
-            revision: self.revision,
-            owner: self.owner,
-            head: self.head,
+            revision: self.register.revision,
+            owner: self.register.owner,
+            head: self.register.head,
         })
     }
 
     fn transact(&mut self, transaction: &Transaction, bytes: &[u8]) -> Answer {
-        match self.carry(transaction, bytes) {
-            Ok(answer) => answer,
-            Err(_) => Answer::Missing,
-        }
+        let delivery = self.next_delivery();
+        let Some(index) = self.keep(transaction, bytes) else {
+            return Answer::Missing;
+        };
+        let answer = self.carry(delivery, transaction, bytes);
+        self.note_due(delivery, index);
+        answer
     }
 
     fn read_chunks(
@@ -219,13 +268,10 @@ impl Engine for MemoryEngine {
         most: u64,
         bytes: &mut Vec<u8>,
     ) -> Result<u64, StorageFault> {
-        let Ok(true) = self.ask() else {
-            return Err(StorageFault::Failed);
-        };
-        if most == 0 {
+        if most == 0 || !self.ask() {
             return Err(StorageFault::Failed);
         }
-        let Some(found) = self.chunk(from) else {
+        let Some(found) = self.register.chunk(from) else {
             return Err(StorageFault::Failed);
         };
         bytes.extend_from_slice(found)?;

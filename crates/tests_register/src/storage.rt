@@ -1,16 +1,16 @@
 //! Tests of a journal's storage in a register: each fault on the way to the register and back, with lengths and counts
 //! worked out by hand. A group of one payload takes 44 bytes for its mark, 12 for the payload's head, and the payload.
 use journal_file::{AppendFault, Journal, JournalOpenFault, Log, LogEnd};
-use journal_register::{Extent, FIRST_HEAD, Head, Owner};
-use journal_remote::{Delivery, MemoryEngine, RemoteStorage, Tenure};
+use journal_register::{ChunkKey, Extent, FIRST_HEAD, Head, Owner};
+use journal_remote::{Delivery, MemoryEngine, RemoteStorage, Tenure, memory_storage};
 use std::alloc::{AllocError, Global};
 use std::process::Abort;
 
 /// The owner of the register.
 const FIRST: Owner = Owner { epoch: 1, nonce: 7 };
 
-/// Who claims it from that one.
-const SECOND: Owner = Owner { epoch: 2, nonce: 9 };
+/// The nonce of the one who claims it from that one.
+const SECOND: u64 = 9;
 
 /// A journal over a register in memory.
 type RemoteJournal = Journal<RemoteStorage<MemoryEngine>>;
@@ -20,12 +20,11 @@ type RemoteJournal = Journal<RemoteStorage<MemoryEngine>>;
 fn opened(alloc: Global, then: &[Delivery]) -> Option<RemoteJournal> {
     let mut deliveries = Vec::from_slice(alloc, &[Delivery::Whole, Delivery::Whole]).ok()?;
     deliveries.extend_from_slice(then).ok()?;
-    let engine = MemoryEngine::new(alloc, FIRST, FIRST_HEAD, deliveries);
     let tenure = Tenure {
         owner: FIRST,
         head: FIRST_HEAD,
     };
-    Journal::open(alloc, RemoteStorage::new(alloc, engine, tenure, 3)).ok()
+    Journal::open(alloc, memory_storage(alloc, tenure, deliveries, 3)).ok()
 }
 
 /// A list of one payload.
@@ -46,11 +45,25 @@ fn long_text(alloc: Global, len: usize) -> Result<Vec<Vec<u8>>, AllocError> {
     Ok(texts)
 }
 
+/// The engine of a journal that isn't used any more, once all that is due has come.
+fn settled(journal: RemoteJournal) -> MemoryEngine {
+    let mut engine = journal.into_storage().into_engine();
+    engine.settle();
+    engine
+}
+
 /// Checks that a journal has these many chunks, with the head behind them at this position, and this many payloads.
 fn expect_head(rt: &impl Abort, head: Head, chunks: u64, position: u64, count: u64) {
     assert!(rt; head.extent.chunks == chunks);
     assert!(rt; head.extent.end.position == position);
     assert!(rt; head.extent.end.count == count);
+}
+
+/// How many bytes the chunk with this index has, of the first generation; `None` where it doesn't stand.
+fn chunk_len(engine: &MemoryEngine, index: u64) -> Option<usize> {
+    let generation = FIRST_HEAD.extent.generation;
+    let chunk = engine.register.chunk(ChunkKey { generation, index })?;
+    Some(chunk.len())
 }
 
 #[test]
@@ -67,10 +80,10 @@ fn appended_payloads_are_read(rt: HostRuntime) {
     assert!(rt;
         found[0].as_slice() == b"one".as_slice() && found[1].as_slice() == b"two!".as_slice()
     );
-    let engine = journal.into_storage().into_engine();
+    let engine = settled(journal);
     // 44 + 12 + 3, and 44 + 12 + 4 more
-    expect_head(&rt, engine.head, 2, 119, 2);
-    assert!(rt; engine.chunks.len() == 2);
+    expect_head(&rt, engine.register.head, 2, 119, 2);
+    assert!(rt; engine.register.writes.len() == 2);
 }
 
 #[test]
@@ -82,7 +95,7 @@ fn sync_behind_an_append_sends_nothing(rt: HostRuntime) {
     assert!(rt; journal.sync() == Ok(1));
     assert!(rt; journal.sync() == Ok(1));
     // two looks to open it, the append, and the look of the second sync
-    assert!(rt; journal.into_storage().into_engine().sent == 4);
+    assert!(rt; settled(journal).sent == 4);
 }
 
 /// Appends one payload, whose message is carried so, and checks that it stands once, by so many messages, of which the
@@ -91,9 +104,9 @@ fn expect_appended_once(rt: &impl Abort, alloc: Global, then: &[Delivery], sent:
     let mut journal = opened(alloc, then).expect(rt, "a journal");
     let one = texts(alloc, b"one").expect(rt, "memory");
     assert!(rt; journal.append(0, &one) == Ok(1));
-    let engine = journal.into_storage().into_engine();
-    expect_head(rt, engine.head, 1, 59, 1);
-    assert!(rt; engine.chunks.len() == 1);
+    let engine = settled(journal);
+    expect_head(rt, engine.register.head, 1, 59, 1);
+    assert!(rt; engine.register.writes.len() == 1);
     assert!(rt; engine.sent == sent);
 }
 
@@ -118,9 +131,9 @@ fn late_message_changes_nothing(rt: HostRuntime) {
     let one = texts(alloc, b"one").expect(&rt, "memory");
     assert!(rt; journal.append(0, &one) == Ok(1));
     assert!(rt; journal.append(1, &one) == Ok(2));
-    let engine = journal.into_storage().into_engine();
-    expect_head(&rt, engine.head, 2, 118, 2);
-    assert!(rt; engine.chunks.len() == 2);
+    let engine = settled(journal);
+    expect_head(&rt, engine.register.head, 2, 118, 2);
+    assert!(rt; engine.register.writes.len() == 2);
 }
 
 #[test]
@@ -132,9 +145,10 @@ fn overtaken_owner_appends_nothing(rt: HostRuntime) {
     assert!(rt; journal.append(0, &one) == Err(AppendFault::Unknown));
     assert!(rt; journal.append(0, &one) == Err(AppendFault::Unknown));
     assert!(rt; journal.sync().is_err());
-    let engine = journal.into_storage().into_engine();
-    expect_head(&rt, engine.head, 0, 0, 0);
-    assert!(rt; engine.chunks.is_empty() && engine.sent == 3);
+    let engine = settled(journal);
+    expect_head(&rt, engine.register.head, 0, 0, 0);
+    // the claim alone was done
+    assert!(rt; engine.register.writes.len() == 1 && engine.sent == 3);
 }
 
 #[test]
@@ -159,9 +173,9 @@ fn silence_is_no_answer(rt: HostRuntime) {
     let one = texts(alloc, b"one").expect(&rt, "memory");
     assert!(rt; journal.append(0, &one) == Err(AppendFault::Unknown));
     assert!(rt; journal.append(0, &one) == Err(AppendFault::Unknown));
-    let engine = journal.into_storage().into_engine();
+    let engine = settled(journal);
     // it came, and nothing that was sent behind it did
-    expect_head(&rt, engine.head, 1, 59, 1);
+    expect_head(&rt, engine.register.head, 1, 59, 1);
     assert!(rt; engine.sent == 5);
 }
 
@@ -174,11 +188,10 @@ fn long_groups_have_several_chunks(rt: HostRuntime) {
     assert!(rt; journal.append(0, &long) == Ok(1));
     let found = journal.read_from(0).expect(&rt, "payloads");
     assert!(rt; found.len() == 1 && found[0].len() == 300_000);
-    let engine = journal.into_storage().into_engine();
-    expect_head(&rt, engine.head, 2, 300_056, 1);
-    assert!(rt; engine.chunks.len() == 2);
-    assert!(rt; engine.chunks[0].bytes.len() == 37_912 && engine.chunks[0].key.index == 1);
-    assert!(rt; engine.chunks[1].bytes.len() == 262_144 && engine.chunks[1].key.index == 0);
+    let engine = settled(journal);
+    expect_head(&rt, engine.register.head, 2, 300_056, 1);
+    assert!(rt; chunk_len(&engine, 0) == Some(262_144) && chunk_len(&engine, 1) == Some(37_912));
+    assert!(rt; chunk_len(&engine, 2).is_none());
 }
 
 #[test]
@@ -193,9 +206,9 @@ fn group_without_its_last_chunk_is_not_there(rt: HostRuntime) {
     let mut journal = opened(alloc, &lost).expect(&rt, "a journal");
     let long = long_text(alloc, 300_000).expect(&rt, "memory");
     assert!(rt; journal.append(0, &long) == Err(AppendFault::Unknown));
-    let engine = journal.into_storage().into_engine();
-    expect_head(&rt, engine.head, 0, 0, 0);
-    assert!(rt; engine.chunks.len() == 1);
+    let engine = settled(journal);
+    expect_head(&rt, engine.register.head, 0, 0, 0);
+    assert!(rt; engine.register.writes.len() == 1);
 }
 
 /// Checks that no journal is opened where the head of a register without chunks says that its list ends so.
@@ -209,8 +222,7 @@ fn expect_refused(rt: &impl Abort, alloc: Global, end: LogEnd) {
         ..FIRST_HEAD
     };
     let tenure = Tenure { owner: FIRST, head };
-    let engine = MemoryEngine::new(alloc, FIRST, head, Vec::new(alloc));
-    let storage = RemoteStorage::new(alloc, engine, tenure, 3);
+    let storage = memory_storage(alloc, tenure, Vec::new(alloc), 3);
     assert!(rt; matches!(Journal::open(alloc, storage), Err(JournalOpenFault::Failed)));
 }
 
