@@ -133,9 +133,9 @@ const HEADS: &[(&str, ControlAnswer)] = &[
 
 #[test]
 fn heads_are_answered(rt: HostRuntime) -> Result<(), Fail> {
-    for (lines, wanted) in HEADS {
+    for &(lines, wanted) in HEADS {
         let found = heading_in(rt.alloc(), lines)?;
-        assert!(rt; found == ControlHead::Whole(reply(*wanted)), "{lines}");
+        assert!(rt; found == ControlHead::Whole(reply(wanted)), "{lines}");
     }
     Ok(())
 }
@@ -181,10 +181,10 @@ const BARE_HEADS: &[(&str, ControlAnswer)] = &[
 /// HEAD is answered as GET, without a body (RFC 9110, section 9.3.2).
 #[test]
 fn sends_no_body_to_a_head(rt: HostRuntime) -> Result<(), Fail> {
-    for (lines, answer) in BARE_HEADS {
+    for &(lines, answer) in BARE_HEADS {
         let found = heading_in(rt.alloc(), lines)?;
         let wanted = ControlReply {
-            answer: *answer,
+            answer,
             has_body: false,
         };
         assert!(rt; found == ControlHead::Whole(wanted), "{lines}");
@@ -212,9 +212,8 @@ const UNREAD_HEADS: &[(ControlHead, usize, bool)] = &[
 #[test]
 fn waits_for_the_rest_of_a_head(rt: HostRuntime) {
     assert!(rt; reply_due(ControlHead::Partial, 8192, false).is_none());
-    for (heading, count, is_over) in UNREAD_HEADS {
-        let due = reply_due(*heading, *count, *is_over);
-        assert!(rt; due == Some(reply(ControlAnswer::Unread)));
+    for &(heading, count, is_over) in UNREAD_HEADS {
+        assert!(rt; reply_due(heading, count, is_over) == Some(reply(ControlAnswer::Unread)));
     }
 }
 
@@ -258,7 +257,7 @@ const REFUSED: &[(&str, &[u8])] = &[
 
 /// Whether each of these requests is refused.
 fn are_refused<R: ControlClientRuntime>(rt: &R, address: SocketAddr) -> io::Result<bool> {
-    for (head, begin) in REFUSED {
+    for &(head, begin) in REFUSED {
         if !is_replied(rt, address, head, begin, b"")? {
             return Ok(false);
         }
