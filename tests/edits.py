@@ -140,7 +140,8 @@ def control(crate, edits):
     wrong = {it: f"the prover knows no function {path_of(it)}" for it in functions if it not in known}
     for function, name in known.items():
         told = told_of(function, name, said)
-        if not told or any(it != "proved" for it in told):
+        # Of a function that may wait or abort the prover says so behind that.
+        if not told or not all(it.startswith("proved") for it in told):
             wrong[function] = f"{path_of(function)} isn't proved as it stands: {first_error(said)}"
     return known, wrong
 
