@@ -179,7 +179,8 @@ impl MemoryEngine {
     /// Keeps a message that is sent, and returns its index; `None` without memory.
     fn keep(&mut self, transaction: &Transaction, bytes: &[u8]) -> Option<usize>
         ensures register { self.new.register ≡ self.old.register }
-        ensures sent { (m : Message) → is_sent self.new.messages.items m ≡ true → (m ≡ record { transaction = transaction.now; bytes = bytes.now }) ⊎ (is_sent self.old.messages.items m ≡ true) }
+        ensures sent { (m : Message) → is_sent self.new.messages.items m ≡ true
+            → (m ≡ record { transaction = transaction.now; bytes = bytes.now }) ⊎ (is_sent self.old.messages.items m ≡ true) }
         ensures kept { (m : Message) → is_sent self.old.messages.items m ≡ true → is_sent self.new.messages.items m ≡ true }
         ensures last { IsSome result → is_sent self.new.messages.items (record { transaction = transaction.now; bytes = bytes.now }) ≡ true }
     {
@@ -200,7 +201,8 @@ impl MemoryEngine {
     /// Carries a message that was sent to the register, and its answer back.
     fn carry(&mut self, delivery: Delivery, transaction: &Transaction, bytes: &[u8]) -> Answer
         requires sent { is_sent self.old.messages.items (record { transaction = transaction.now; bytes = bytes.now }) ≡ true }
-        ensures goes { Exchanges any_owner (is_sent self.new.messages.items) (record { transaction = transaction.now; bytes = bytes.now }) result (register_of self.old.register) (register_of self.new.register) }
+        ensures goes { Exchanges any_owner (is_sent self.new.messages.items) (record { transaction = transaction.now; bytes = bytes.now })
+            result (register_of self.old.register) (register_of self.new.register) }
         ensures messages { self.new.messages ≡ self.old.messages }
     {
         self.come_before(delivery);

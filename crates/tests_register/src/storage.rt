@@ -17,7 +17,7 @@ type RemoteJournal = Journal<RemoteStorage<MemoryEngine>>;
 
 /// The journal of a register without chunks, whose messages are carried so once it is open: to open it takes two looks.
 /// A transaction is sent three times at the most.
-fn opened(alloc: Global, then: &[Delivery]) -> Option<RemoteJournal> {
+fn open_journal(alloc: Global, then: &[Delivery]) -> Option<RemoteJournal> {
     let mut deliveries = Vec::from_slice(alloc, &[Delivery::Whole, Delivery::Whole]).ok()?;
     deliveries.extend_from_slice(then).ok()?;
     let tenure = Tenure {
@@ -46,7 +46,7 @@ fn long_text(alloc: Global, len: usize) -> Result<Vec<Vec<u8>>, AllocError> {
 }
 
 /// The engine of a journal that isn't used any more, once all that is due has come.
-fn settled(journal: RemoteJournal) -> MemoryEngine {
+fn engine_of(journal: RemoteJournal) -> MemoryEngine {
     let mut engine = journal.into_storage().into_engine();
     engine.settle();
     engine
@@ -69,7 +69,7 @@ fn chunk_len(engine: &MemoryEngine, index: u64) -> Option<usize> {
 #[test]
 fn appended_payloads_are_read(rt: HostRuntime) {
     let alloc = rt.alloc();
-    let mut journal = opened(alloc, &[]).expect(&rt, "a journal");
+    let mut journal = open_journal(alloc, &[]).expect(&rt, "a journal");
     let one = texts(alloc, b"one").expect(&rt, "memory");
     let two = texts(alloc, b"two!").expect(&rt, "memory");
     assert!(rt; journal.append(0, &one) == Ok(1));
@@ -80,7 +80,7 @@ fn appended_payloads_are_read(rt: HostRuntime) {
     assert!(rt;
         found[0].as_slice() == b"one".as_slice() && found[1].as_slice() == b"two!".as_slice()
     );
-    let engine = settled(journal);
+    let engine = engine_of(journal);
     // 44 + 12 + 3, and 44 + 12 + 4 more
     expect_head(&rt, engine.register.head, 2, 119, 2);
     assert!(rt; engine.register.writes.len() == 2);
@@ -89,22 +89,22 @@ fn appended_payloads_are_read(rt: HostRuntime) {
 #[test]
 fn sync_behind_an_append_sends_nothing(rt: HostRuntime) {
     let alloc = rt.alloc();
-    let mut journal = opened(alloc, &[]).expect(&rt, "a journal");
+    let mut journal = open_journal(alloc, &[]).expect(&rt, "a journal");
     let one = texts(alloc, b"one").expect(&rt, "memory");
     assert!(rt; journal.append(0, &one) == Ok(1));
     assert!(rt; journal.sync() == Ok(1));
     assert!(rt; journal.sync() == Ok(1));
     // two looks to open it, the append, and the look of the second sync
-    assert!(rt; settled(journal).sent == 4);
+    assert!(rt; engine_of(journal).sent == 4);
 }
 
 /// Appends one payload, whose message is carried so, and checks that it stands once, by so many messages, of which the
 /// first two are the looks that open the journal.
 fn expect_appended_once(rt: &impl Abort, alloc: Global, then: &[Delivery], sent: u64) {
-    let mut journal = opened(alloc, then).expect(rt, "a journal");
+    let mut journal = open_journal(alloc, then).expect(rt, "a journal");
     let one = texts(alloc, b"one").expect(rt, "memory");
     assert!(rt; journal.append(0, &one) == Ok(1));
-    let engine = settled(journal);
+    let engine = engine_of(journal);
     expect_head(rt, engine.register.head, 1, 59, 1);
     assert!(rt; engine.register.writes.len() == 1);
     assert!(rt; engine.sent == sent);
@@ -127,11 +127,11 @@ fn faults_on_the_way_are_mended(rt: HostRuntime) {
 fn late_message_changes_nothing(rt: HostRuntime) {
     let alloc = rt.alloc();
     let late = [Delivery::Held, Delivery::Whole, Delivery::BehindHeld];
-    let mut journal = opened(alloc, &late).expect(&rt, "a journal");
+    let mut journal = open_journal(alloc, &late).expect(&rt, "a journal");
     let one = texts(alloc, b"one").expect(&rt, "memory");
     assert!(rt; journal.append(0, &one) == Ok(1));
     assert!(rt; journal.append(1, &one) == Ok(2));
-    let engine = settled(journal);
+    let engine = engine_of(journal);
     expect_head(&rt, engine.register.head, 2, 118, 2);
     assert!(rt; engine.register.writes.len() == 2);
 }
@@ -140,12 +140,12 @@ fn late_message_changes_nothing(rt: HostRuntime) {
 fn overtaken_owner_appends_nothing(rt: HostRuntime) {
     let alloc = rt.alloc();
     let claim = [Delivery::BehindClaim(SECOND)];
-    let mut journal = opened(alloc, &claim).expect(&rt, "a journal");
+    let mut journal = open_journal(alloc, &claim).expect(&rt, "a journal");
     let one = texts(alloc, b"one").expect(&rt, "memory");
     assert!(rt; journal.append(0, &one) == Err(AppendFault::Unknown));
     assert!(rt; journal.append(0, &one) == Err(AppendFault::Unknown));
     assert!(rt; journal.sync().is_err());
-    let engine = settled(journal);
+    let engine = engine_of(journal);
     expect_head(&rt, engine.register.head, 0, 0, 0);
     // the claim alone was done
     assert!(rt; engine.register.writes.len() == 1 && engine.sent == 3);
@@ -155,9 +155,9 @@ fn overtaken_owner_appends_nothing(rt: HostRuntime) {
 fn overtaken_owner_syncs_nothing(rt: HostRuntime) {
     let alloc = rt.alloc();
     let claim = [Delivery::BehindClaim(SECOND)];
-    let mut journal = opened(alloc, &claim).expect(&rt, "a journal");
+    let mut journal = open_journal(alloc, &claim).expect(&rt, "a journal");
     assert!(rt; journal.sync().is_err());
-    let mut journal = opened(alloc, &claim).expect(&rt, "a journal");
+    let mut journal = open_journal(alloc, &claim).expect(&rt, "a journal");
     assert!(rt; journal.read_from(0).is_err());
 }
 
@@ -169,11 +169,11 @@ fn silence_is_no_answer(rt: HostRuntime) {
         Delivery::LostRequest,
         Delivery::LostRequest,
     ];
-    let mut journal = opened(alloc, &lost).expect(&rt, "a journal");
+    let mut journal = open_journal(alloc, &lost).expect(&rt, "a journal");
     let one = texts(alloc, b"one").expect(&rt, "memory");
     assert!(rt; journal.append(0, &one) == Err(AppendFault::Unknown));
     assert!(rt; journal.append(0, &one) == Err(AppendFault::Unknown));
-    let engine = settled(journal);
+    let engine = engine_of(journal);
     // it came, and nothing that was sent behind it did
     expect_head(&rt, engine.register.head, 1, 59, 1);
     assert!(rt; engine.sent == 5);
@@ -183,12 +183,12 @@ fn silence_is_no_answer(rt: HostRuntime) {
 #[test]
 fn long_groups_have_several_chunks(rt: HostRuntime) {
     let alloc = rt.alloc();
-    let mut journal = opened(alloc, &[]).expect(&rt, "a journal");
+    let mut journal = open_journal(alloc, &[]).expect(&rt, "a journal");
     let long = long_text(alloc, 300_000).expect(&rt, "memory");
     assert!(rt; journal.append(0, &long) == Ok(1));
     let found = journal.read_from(0).expect(&rt, "payloads");
     assert!(rt; found.len() == 1 && found[0].len() == 300_000);
-    let engine = settled(journal);
+    let engine = engine_of(journal);
     expect_head(&rt, engine.register.head, 2, 300_056, 1);
     assert!(rt; chunk_len(&engine, 0) == Some(262_144) && chunk_len(&engine, 1) == Some(37_912));
     assert!(rt; chunk_len(&engine, 2).is_none());
@@ -203,10 +203,10 @@ fn group_without_its_last_chunk_is_not_there(rt: HostRuntime) {
         Delivery::LostRequest,
         Delivery::LostRequest,
     ];
-    let mut journal = opened(alloc, &lost).expect(&rt, "a journal");
+    let mut journal = open_journal(alloc, &lost).expect(&rt, "a journal");
     let long = long_text(alloc, 300_000).expect(&rt, "memory");
     assert!(rt; journal.append(0, &long) == Err(AppendFault::Unknown));
-    let engine = settled(journal);
+    let engine = engine_of(journal);
     expect_head(&rt, engine.register.head, 0, 0, 0);
     assert!(rt; engine.register.writes.len() == 1);
 }

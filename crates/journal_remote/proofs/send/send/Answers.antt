@@ -18,8 +18,10 @@ tries-preserved g c =
     let r = g.E.Engine.register in
     let sent : Message = record { transaction = c.args.transaction.now; bytes = c.args.bytes.now } in
     record {
-      goes = then_silence (g.E.Engine.is_own c.args.engine.now) (g.E.Engine.is_own c.tries.engine) (g.E.Engine.sends c.tries.engine) (g.E.Engine.sends c.transact-answer.new.self) sent c.transact-answer.result
-          (r c.args.engine.now) (r c.tries.engine) (r c.transact-answer.new.self) c.tries.invariant.own c.transact-answer.ensures.kept c.tries.invariant.goes c.in-Missing.is c.transact-answer.ensures.goes;
+      goes = then_silence (g.E.Engine.is_own c.args.engine.now) (g.E.Engine.is_own c.tries.engine)
+          (g.E.Engine.sends c.tries.engine) (g.E.Engine.sends c.transact-answer.new.self) sent c.transact-answer.result
+          (r c.args.engine.now) (r c.tries.engine) (r c.transact-answer.new.self)
+          c.tries.invariant.own c.transact-answer.ensures.kept c.tries.invariant.goes c.in-Missing.is c.transact-answer.ensures.goes;
       sent = λ m e. or_else (c.transact-answer.ensures.sent m e) (c.tries.invariant.sent m);
       own = c.transact-answer.ensures.own ∙ c.tries.invariant.own;
     }
@@ -32,8 +34,10 @@ returns-in_default g c =
       goes = (
         c.transact-answer.result,
         c.outcome.ensures,
-        then_exchanges (g.E.Engine.is_own c.args.engine.now) (g.E.Engine.is_own c.tries.engine) (g.E.Engine.sends c.tries.engine) (g.E.Engine.sends c.transact-answer.new.self) sent c.transact-answer.result
-            (r c.args.engine.now) (r c.tries.engine) (r c.transact-answer.new.self) c.tries.invariant.own c.transact-answer.ensures.kept c.tries.invariant.goes c.transact-answer.ensures.goes,
+        then_exchanges (g.E.Engine.is_own c.args.engine.now) (g.E.Engine.is_own c.tries.engine)
+            (g.E.Engine.sends c.tries.engine) (g.E.Engine.sends c.transact-answer.new.self) sent c.transact-answer.result
+            (r c.args.engine.now) (r c.tries.engine) (r c.transact-answer.new.self)
+            c.tries.invariant.own c.transact-answer.ensures.kept c.tries.invariant.goes c.transact-answer.ensures.goes,
       );
       sent = λ m e. or_else (c.transact-answer.ensures.sent m e) (c.tries.invariant.sent m);
       own = c.transact-answer.ensures.own ∙ c.tries.invariant.own;
