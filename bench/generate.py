@@ -2,6 +2,7 @@
 
 import math
 import os
+import re
 
 SEED = 0x9E3779B97F4A7C15
 MASK = (1 << 64) - 1
@@ -15,7 +16,10 @@ OPERATORS = 21
 VEHICLE_TYPES = ("bicycle", "cargo_bicycle", "car", "moped", "scooter_standing", "scooter_seated", "delivery_robot", "other")
 STATES = ("available", "reserved", "on_trip", "non_operational", "elsewhere", "stopped")
 PROPULSION = ("human", "electric_assist", "electric", "combustion")
+DAYS = ("sun", "mon", "tue", "wed", "thu", "fri", "sat")
+COUNT = '"rule_type":"count",'
 EVENTS = ("trip_start", "trip_end", "trip_pause", "battery_low", "maintenance", "rebalance_pick_up", "located", "agency_drop_off")
+DEVICE = re.compile('"device_id":"([^"]*)"')
 
 
 class Xorshift:
@@ -136,13 +140,40 @@ def policy(random, number, rules, geographies, maximum=MOST_VEHICLES, name="cap"
     return '{"policy_id":"%s","name":"%s","start_date":%d,"rules":[%s]}' % (policy_id(number), name, START, ",".join(entries))
 
 
+def window(random):
+    """The members of a rule's window: some hours, perhaps over midnight, and for half of the rules some days."""
+    begin = random.below(1_440)
+    end = (begin + 360 + random.below(900)) % 1_440
+    members = '"start_time":"%02d:%02d","end_time":"%02d:%02d",' % (*divmod(begin, 60), *divmod(end, 60))
+    return members + ('"days":%s,' % words(random.some(DAYS, 5)) if random.below(2) else "")
+
+
+def with_windows(random, policy):
+    """The same policy, each rule of which is open at its own times of some days."""
+    front, *rules = policy.split(COUNT)
+    return front + "".join(COUNT + window(random) + rest for rest in rules)
+
+
+def with_rest(policy, number, place):
+    """The same policy with a last rule, always open, that catches whatever is in a place, of which there may be none."""
+    last = (identifier(3, 64 * number + 63), COUNT, words([geography_id(place)]))
+    return policy[:-2] + ',{"rule_id":"%s","name":"rest",%s"geographies":%s,"maximum":0}]}' % last
+
+
+def whole_city(number):
+    """A geography in which the whole city lies: a square of twice its width."""
+    lng, lat = CENTRE
+    corners = ((lng + 2 * x * HALF_BOX, lat + 2 * y * HALF_BOX) for x, y in ((-1, -1), (1, -1), (1, 1), (-1, 1), (-1, -1)))
+    return geography(number, list(corners))
+
+
 def device(random):
     bits = "%016x%016x" % (random.next(), random.next())
     return "-".join((bits[:8], bits[8:12], bits[12:16], bits[16:20], bits[20:]))
 
 
-def report(random, operator):
-    """A new device with a random identifier at a random position of the city."""
+def report(random, operator, name=None, timestamp=START + 500):
+    """A new device with a random identifier, or the one of this name, at a random position of the city."""
     lng, lat = (middle - HALF_BOX + random.below(2 * HALF_BOX + 1) for middle in CENTRE)
     return (
         '%d %s POST /fleet/events {"device_id":"%s","vehicle_type":"%s","propulsion_types":%s,'
@@ -150,12 +181,12 @@ def report(random, operator):
         % (
             START + 1_000,
             token(operator),
-            device(random),
+            name or device(random),
             VEHICLE_TYPES[random.below(len(VEHICLE_TYPES))],
             words(random.some(PROPULSION, 2)),
             STATES[random.below(len(STATES))],
             words(random.some(EVENTS, 2)),
-            START + 500,
+            timestamp,
             degrees(lat),
             degrees(lng),
         )
@@ -164,6 +195,11 @@ def report(random, operator):
 
 def fleet(random, size, operator=0):
     return [report(random, operator) for _ in range(size)]
+
+
+def reported_again(random, reports, turn):
+    """Of each of these reports of the first operator a later one, of a turn, of its vehicle elsewhere in the city."""
+    return [report(random, 0, DEVICE.search(it)[1], START + 500 + turn) for it in reports]
 
 
 def request(method, target, body=None, who="city", at=START):
@@ -184,8 +220,9 @@ def publish(geographies, policies=()):
     return request("POST", "/publish", body % (words(map(geography_id, geographies)), words(map(policy_id, policies))))
 
 
-def get(target):
-    return request("GET", target, who=token(0), at=START + 2_000)
+def get(target, later=0):
+    """A question of the first operator, so many milliseconds later than another."""
+    return request("GET", target, who=token(0), at=START + 2_000 + later)
 
 
 def write_lines(folder, name, lines):
