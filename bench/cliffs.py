@@ -24,6 +24,7 @@ import json
 import multiprocessing
 import os
 import shutil
+import socket
 import statistics
 import sys
 import tempfile
@@ -158,18 +159,30 @@ def fleet_part(options, sizes, rows):
                 send_many(link, reports)
             before = resident(pid)
             forget_most_memory(pid)
-            with contextlib.ExitStack() as readers:
-                for _ in range(READERS):
-                    readers.enter_context(server.link(receive=4096)).send(request("GET", FLEET, token))
-                time.sleep(READING_SECONDS)
+            untaken(server, token)
             rows.add("readers", most_memory(pid) - before)
             with server.link() as link:
+                link.socket.settimeout(MOST_SECONDS)
                 spent = processor_seconds(pid)
-                bodies = [whole_reply(link, FLEET, token) for _ in range(REPLIES)]
+                for _ in range(REPLIES):
+                    body = whole_reply(link, FLEET, token)
                 rows.add("reply", (processor_seconds(pid) - spent) / REPLIES)
-            if any(it != bodies[0] for it in bodies) or not has_vehicles(bodies[0], devices):
+            if not has_vehicles(body, devices):
                 sys.exit("the fleet isn't told as it was reported")
-            rows.add("bytes", len(bodies[0]))
+            rows.add("bytes", len(body))
+
+
+def untaken(server, token):
+    """Asks for a fleet on several connections, and takes nothing for a while once each answer has begun."""
+    with contextlib.ExitStack() as stack:
+        readers = [stack.enter_context(server.link(receive=4096)) for _ in range(READERS)]
+        for link in readers:
+            link.socket.settimeout(MOST_SECONDS)
+            link.send(request("GET", FLEET, token))
+        for link in readers:
+            if not link.socket.recv(13, socket.MSG_PEEK | socket.MSG_WAITALL).endswith(b" 200 "):
+                sys.exit("a reader isn't answered with a fleet")
+        time.sleep(READING_SECONDS)
 
 
 def fill(port, number, count):
