@@ -1,9 +1,11 @@
 //! Tests of the records of a journal. The expected bytes come from another program's SipHash-1-3 with both keys 0.
 use journal_file::{
-    AppendFault, CutTail, Journal, JournalEnding, JournalOpenFault, Log, MemoryStorage,
-    MemoryTailStore, Signature, are_taken, ending_of, group_of, push, read,
+    AppendFault, CutTail, FileStorage, Journal, JournalEnding, JournalOpenFault, Log,
+    MemoryStorage, MemoryTailStore, Signature, are_taken, ending_of, group_of, push, read,
 };
 use std::alloc::{AllocError, Global};
+use std::fs::{self, File};
+use std::test::Fail;
 
 const FIRST: &[u8] = &[0, 0, 0, 3, 37, 19, 247, 30, 17, 226, 15, 101, 111, 110, 101];
 
@@ -230,4 +232,31 @@ fn failing_journals_stop(rt: HostRuntime) {
     let one = texts(rt.alloc(), b"one").expect(&rt, "memory");
     assert!(rt; journal.append(2, &one) == Err(AppendFault::Unknown));
     assert!(rt; journal.read_from(0).is_err());
+}
+
+#[test]
+fn unreadable_files_are_refused(rt: HostRuntime) -> Result<(), Fail> {
+    // A folder can be opened, and each read of it fails.
+    let folder = FileStorage::new(File::open(&rt, ".")?);
+    let mut aside = aside(rt.alloc(), true);
+    let fault = Journal::recover(rt.alloc(), folder, &mut aside).err();
+    assert!(rt; fault == Some(JournalOpenFault::Failed));
+    Ok(())
+}
+
+#[test]
+fn torn_files_that_stay_torn_are_refused(rt: HostRuntime) -> Result<(), Fail> {
+    let mut medium = journal_of_two(rt.alloc(), 10)
+        .expect(&rt, "a journal")
+        .into_storage();
+    medium.bytes.truncate(118);
+    fs::write(&rt, "torn", medium.bytes.as_slice())?;
+    // A file that is open for reading alone can't be cut.
+    let file = FileStorage::new(File::open(&rt, "torn")?);
+    let mut aside = aside(rt.alloc(), true);
+    let fault = Journal::recover(rt.alloc(), file, &mut aside).err();
+    fs::remove_file(&rt, "torn")?;
+    assert!(rt; fault == Some(JournalOpenFault::Failed));
+    assert!(rt; aside.from == 103);
+    Ok(())
 }
