@@ -1,6 +1,7 @@
 pub mod Refusals
 pub mod Records
 pub mod Many
+pub mod Chunks
 pub mod People
 pub mod FleetViews
 pub mod CacheControl

@@ -1,10 +1,11 @@
 //! Many reports, one on each line of a body.
-ghost use Rattle.std.specs.Prelude.{◌≡◌, ◌⊎◌, ◌++◌, ◌∷◌, [], ◌≤◌, ◌<◌, true, IfOk, IfErr, IfSome, OnOk, filter, length, map, position};
+ghost use Rattle.std.specs.Prelude.{◌≡◌, ◌⊎◌, ◌++◌, ◌∷◌, [], ◌≤◌, ◌<◌, Bool, true, IfOk, IfErr, IfSome, OnOk, filter, find, length, map, not, option_copied, position, take};
 ghost use Rattle.std.specs.Io.BufRead.{strip_last};
 ghost use Rattle.mds_script.specs.Input.{is_feed, is_filled, lines};
 ghost use Rattle.mds_request.specs.Request.{request_of};
+ghost use Rattle.server_durable.specs.Chunks.{AreAlike, is_space, may_be_report};
 ghost use Rattle.server_durable.specs.Many.{IsRefusedWhole, report_of, reports_of};
-ghost use Rattle.server_durable.specs.declared.batch.TheConstants.{MOST_REPORTS};
+ghost use Rattle.server_durable.specs.declared.batch.TheConstants.{CHUNK, MOST_REPORTS};
 ghost use Rattle.mds_request.specs.declared.code.Code.TheVariants.{NoMemory, TooLarge};
 
 use mds_request::{Code, Request, Verb};
@@ -48,18 +49,31 @@ fn first_line(text: &[u8]) -> (&[u8], &[u8])
 }
 
 /// Whether a byte is white space of JSON (RFC 8259, section 2).
-fn is_space(byte: u8) -> bool {
+fn is_space(byte: u8) -> bool
+    ensures { result ≡ is_space byte }
+{
     matches!(byte, b' ' | b'\t' | b'\n' | b'\r')
 }
 
+/// The first byte of a line that isn't white space.
+fn first_non_space(line: &[u8]) -> Option<&u8>
+    ensures { option_copied result ≡ find (λ byte. not (is_space byte)) line.now }
+{
+    line.iter().find(|byte| !is_space(**byte))
+}
+
 /// Whether a line may be a report: after white space it begins as an object of JSON does (RFC 8259, section 4).
-pub(crate) fn may_be_report(line: &[u8]) -> bool {
-    matches!(line.iter().find(|byte| !is_space(**byte)), Some(b'{'))
+pub(crate) fn may_be_report(line: &[u8]) -> bool
+    ensures { result ≡ may_be_report line.now }
+{
+    matches!(first_non_space(line), Some(b'{'))
 }
 
 /// How many of these requests, from the first on, may all be reports, or may none be: fewer than `CHUNK`.
 fn run_length(requests: &[Request<'_>], may_be_reports: bool) -> usize
-    ensures { result ≤ length requests.now }
+    ensures within { result ≤ length requests.now }
+    ensures few { result < CHUNK }
+    ensures alike { AreAlike may_be_reports (take result requests.now) }
 {
     let mut count = 0;
     for request in requests {
@@ -76,6 +90,8 @@ pub(crate) fn chunk_length(requests: &[Request<'_>]) -> usize
     requires { 0 < length requests.now }
     ensures some { 0 < result }
     ensures within { result ≤ length requests.now }
+    ensures few { result ≤ CHUNK }
+    ensures alike { (may_be_reports : Bool) × AreAlike may_be_reports (take result requests.now) }
 {
     let may_be_reports = may_be_report(requests[0].body);
     // The first one always belongs to the chunk.
