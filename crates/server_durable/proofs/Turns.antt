@@ -1,5 +1,5 @@
 -- The record of a turn.
-use Rattle.std.proofs.Common.{◌≡◌, ℕ, Bool, true, false, List, Option, Some, None, IfSome, IfNone, IsSome, option_map, refl, sym, subst}
+use Rattle.std.proofs.Common.{◌≡◌, ℕ, Bool, true, false, List, Option, Some, None, IfSome, IfNone, IsSome, Result, Ok, Err, IfOk, option_map, refl, sym, subst}
 use Rattle.std.specs.Prelude.{◌&&◌, ◌==◌}
 use Rattle.std.proofs.lemmas.Bool.{eqb-true}
 use Rattle.journal_commit.specs.declared.backlog.Reservation.{Reservation}
@@ -69,3 +69,22 @@ settled_unasked place text reserved held (Some e) status stamp is same none sett
 pub of_some : {A P : Type 0} (o : Option A) → IsSome o → IfSome o (λ _. P) → P
 of_some None some p = absurd cc
 of_some (Some a) some p = p
+
+-- a turn is recorded where the completion of its record gives its reply, and a log position by which its reservation is
+-- completed
+pub recorded_outcome : {V E : Type 0} (answer : V → Reply) (position : V → List (List ℕ)) (configuration : Configuration) (actor : Actor) (request : Request) (reply : Reply) (reserved : CallReservation) (outcome : Result V E)
+    → TurnGives configuration actor request reply → IsReserved configuration request reserved → IfOk outcome (λ answered. answer answered ≡ reply)
+    → ((answered : V) → outcome ≡ Ok answered → IsSettled reserved reply.status (position answered))
+    → IfOk outcome (λ answered. IsRecordedTurn configuration actor request (answer answered) (position answered))
+recorded_outcome answer position configuration actor request reply reserved (Ok answered) turn is same settled =
+    subst (λ (told : Reply). IsRecordedTurn configuration actor request told (position answered)) (sym same)
+    (recorded configuration actor request reply reserved (position answered) turn is (settled answered refl))
+recorded_outcome answer position configuration actor request reply reserved (Err e) turn is same settled = tt
+
+-- where something was shown and there is no note, an outcome fails as another does
+pub ahead_alike : {A B E F S N : Type 0} (failed : F → E) (shown : Option S) (note : Option N) (outcome : Result A E) (other : Result B E)
+    → ((e : E) → outcome ≡ Err e → other ≡ Err e) → IfSome shown (λ _. IfNone note ((failure : F) × (outcome ≡ Err (failed failure))))
+    → IfSome shown (λ _. IfNone note ((failure : F) × (other ≡ Err (failed failure))))
+ahead_alike failed None noted outcome other same ahead = tt
+ahead_alike failed (Some s) None outcome other same ahead = (ahead.0, same (failed ahead.0) ahead.1)
+ahead_alike failed (Some s) (Some n) outcome other same ahead = tt

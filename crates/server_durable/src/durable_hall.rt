@@ -15,11 +15,11 @@ ghost use Rattle.server_durable.specs.CacheControl.{Waits};
 use crate::cache_control::mark_unstored;
 use crate::context::{Context, TurnRuntime};
 use crate::pending::{NoResponse, ResponseAfterSync};
-use crate::record_commit::{RecordCommit, RecordPayload};
 use crate::records::{
     CallReservation, NoReservation, append_or_release, client_of, give_back, record_text,
     refusal_for, share_index,
 };
+use crate::room_turn::{RecordCommit, RecordPayload, RoomTurn};
 use bytes::Bytes;
 use http::Response;
 use http_body_util::Full;
@@ -280,13 +280,10 @@ impl<K: HallName, N: LogName, L: Log, S: Space> DurableHall<K, N, L, S> {
         ensures { IfOk result (λ answered. IsRecordedTurn K.configuration Author
             (request_heard heard.entry) answered.answer answered.stamp) }
     {
-        let mut recording = RecordCommit::<T, R, N, L, S>::new(*rt, keeper, reserved);
+        let recording = RecordCommit::<T, R, N, L, S>::new(*rt, keeper, reserved);
         let mut room = self.hall.room(rt);
-        let (answer, note) = room.carry_out(rt, heard, &call, &mut recording);
-        match recording.complete(&self.hall, note, &self.nothing, answer.status()) {
-            Ok(stamp) => Ok(AnswerAtPosition { answer, stamp }),
-            Err(fault) => Err(fault),
-        }
+        let turn = RoomTurn::take(rt, &mut *room, call, heard, recording);
+        turn.complete(&self.hall, &self.nothing)
     }
 
     /// A turn of the author's room: see `room_turn`.

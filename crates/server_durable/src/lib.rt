@@ -13,10 +13,10 @@ mod pending;
 mod pending_response;
 mod people;
 mod published;
-mod record_commit;
 mod records;
 mod report_lines;
 mod responding;
+mod room_turn;
 mod service;
 
 pub use batch::MOST_REPORTS;

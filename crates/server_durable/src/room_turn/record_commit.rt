@@ -40,9 +40,9 @@ pub(crate) struct RecordCommit<T: RecordPayload, R, N: LogName, L: Log, S: Space
     rt: R,
     keeper: Arc<CommitLog<N, L, S>>,
     /// The reservation, until the record is appended. A request that reads has none.
-    pub held: Option<TitledReservation<T>>,
+    pub(super) held: Option<TitledReservation<T>>,
     /// What the append before a publication gave: the log position of all that was synced then.
-    pub shown: Option<Result<LogPosition<N, L>, CommitFault>>,
+    pub(super) shown: Option<Result<LogPosition<N, L>, CommitFault>>,
 }
 
 impl<T: RecordPayload, R: Wait + Drop, N: LogName, L: Log, S: Space> PublishGuard
@@ -122,7 +122,7 @@ impl<T: RecordPayload, R: Wait + Drop, N: LogName, L: Log, S: Space> RecordCommi
     ///
     /// The log failed. It also fails where a record was appended for a publication that didn't happen: the log is ahead
     /// then.
-    pub(crate) fn complete<K: HallName>(
+    pub(super) fn complete<K: HallName>(
         self,
         hall: &Hall<K>,
         note: Option<Note<K>>,
