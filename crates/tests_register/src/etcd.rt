@@ -1,13 +1,15 @@
 //! Tests of what is said to etcd and of what it answers: requests by etcd's documentation of its gateway, base64 by
 //! another program and by RFC 4648, and answers in the form in which etcd 3.4.23 gives them.
 use journal_etcd::{
-    AnswerError, AnswerFault, GatewayPath, Keys, RequestFault, head_value, look_request,
-    owner_value, read_head, read_look, read_owner, read_transaction, transaction_request,
+    AnswerError, AnswerFault, GatewayPath, Keys, RequestFault, TransactionAnswer, head_value,
+    look_request, owner_value, read_head, read_look, read_owner, read_transaction,
+    transaction_request,
 };
 use journal_file::LogEnd;
 use journal_register::{
     Extent, FIRST_HEAD, Generation, Head, Look, NO_HEAD, NOBODY, Outcome, Owner, Transaction,
 };
+use std::alloc::Global;
 use std::process::Abort;
 
 /// The prefix of the register's keys.
@@ -15,6 +17,9 @@ const KEYS: Keys<'static> = Keys { prefix: "c" };
 
 /// The owner that the first claim makes.
 const FIRST: Owner = Owner { epoch: 1, nonce: 7 };
+
+/// The owner that claimed the register from it.
+const SECOND: Owner = Owner { epoch: 2, nonce: 9 };
 
 /// Where the journal ends behind one chunk.
 const ONE_END: LogEnd = LogEnd {
@@ -96,76 +101,113 @@ const FAULTS: &[(&str, AnswerFault)] = &[
     ),
 ];
 
+/// The requests of the first claim, of the append of a first chunk, and part of that of a removal.
+const CLAIM_REQUEST: &str =
+    r#"{"compare":[{"key":"Yy9vd25lcg==","target":"CREATE","result":"EQUAL","create_revision":"0"},{"key":"Yy9oZWFk","target":"CREATE","result":"EQUAL","create_revision":"0"}],"success":[{"request_put":{"key":"Yy9vd25lcg==","value":"MSAxIDcg"}},{"request_put":{"key":"Yy9oZWFk","value":"MSAxIDAgMCAwIDAgMCAwIDAgMCAwIDAgMCAwIDAgMCAwIDAg"}},{"request_range":{"key":"Yy9oZWFk","range_end":"Yy9w"}}],"failure":[{"request_range":{"key":"Yy9oZWFk","range_end":"Yy9w"}}]}"#;
+
+const APPEND_REQUEST: &str =
+    r#"{"compare":[{"key":"Yy9vd25lcg==","target":"VALUE","result":"EQUAL","value":"MSAxIDcg"},{"key":"Yy9oZWFk","target":"VALUE","result":"EQUAL","value":"MSAxIDAgMCAwIDAgMCAwIDAgMCAwIDAgMCAwIDAgMCAwIDAg"}],"success":[{"request_put":{"key":"Yy9oZWFk","value":"MSAxIDAgMSAzMTAgNSAyIDAgMCAwIDAgMCAwIDAgMCAwIDAgMCA="}},{"request_put":{"key":"Yy9jLzAwMDAwMDAwMDAwMDAwMDEwMDAwMDAwMDAwMDAwMDAwLzAwMDAwMDAwMDAwMDAwMDA=","value":"Y2h1bms="}},{"request_range":{"key":"Yy9oZWFk","range_end":"Yy9w"}}],"failure":[{"request_range":{"key":"Yy9oZWFk","range_end":"Yy9w"}}]}"#;
+
+const REMOVAL_PART: &str =
+    r#""success":[{"request_delete_range":{"key":"Yy9jLzAwMDAwMDAwMDAwMDAwMDEwMDAwMDAwMDAwMDAwMDAwLw==","range_end":"Yy9jLzAwMDAwMDAwMDAwMDAwMDEwMDAwMDAwMDAwMDAwMDAwMA=="}},{"request_range""#;
+
+/// What the look at the register without its keys shows.
+const UNCLAIMED: Look = Look {
+    cluster: 9_038_501_614_830_948_466,
+    revision: 42_513,
+    owner: NOBODY,
+    head: NO_HEAD,
+};
+
+/// The head of a second generation without chunks.
+const SWITCHED: Head = Head {
+    extent: Extent {
+        generation: Generation {
+            epoch: 1,
+            attempt: 1,
+        },
+        chunks: 0,
+        end: ONE_END,
+    },
+    ..FIRST_HEAD
+};
+
 fn first_claim(rt: &impl Abort) -> Transaction {
     Transaction::claim(NOBODY, 7).expect(rt, "a claim")
 }
 
-fn is_bad_shape<T: Drop>(read: Result<T, AnswerError>) -> bool {
-    match read {
-        Ok(_) => false,
-        Err(error) => error == AnswerError::Fault(AnswerFault::BadShape),
-    }
+/// Checks that a text isn't read as an owner, for this reason.
+fn expect_no_owner(rt: &impl Abort, alloc: Global, text: &[u8], fault: AnswerFault) {
+    assert!(rt; read_owner(alloc, text) == Err(AnswerError::Fault(fault)));
+}
+
+/// Checks that an answer isn't read as one to a look, for this reason.
+fn expect_no_look(rt: &impl Abort, alloc: Global, text: &[u8], fault: AnswerFault) {
+    assert!(rt; read_look(alloc, &KEYS, text) == Err(AnswerError::Fault(fault)));
+}
+
+/// Checks that this is what an owner's key has, and that the owner is read from it.
+fn expect_owner_value(rt: &impl Abort, alloc: Global, text: &[u8]) {
+    let value = owner_value(alloc, FIRST).expect(rt, "memory");
+    assert!(rt; value.as_slice() == text);
+    assert!(rt; read_owner(alloc, text) == Ok(FIRST));
+}
+
+/// Checks that this is what a head's key has, and that the head is read from it.
+fn expect_head_value(rt: &impl Abort, alloc: Global, text: &[u8]) {
+    let value = head_value(alloc, FIRST_HEAD).expect(rt, "memory");
+    assert!(rt; value.as_slice() == text);
+    assert!(rt; read_head(alloc, text) == Ok(FIRST_HEAD));
 }
 
 #[test]
 fn values_are_numbers(rt: HostRuntime) {
     let alloc = rt.alloc();
-    let owner = owner_value(alloc, FIRST).expect(&rt, "memory");
-    let head = head_value(alloc, FIRST_HEAD).expect(&rt, "memory");
-    assert!(rt; owner.as_slice() == b"1 1 7 ".as_slice());
-    assert!(rt; head.as_slice() == b"1 1 0 0 0 0 0 0 0 0 0 0 0 0 0 0 0 0 ".as_slice());
-    assert!(rt; read_owner(alloc, &owner) == Ok(FIRST));
-    assert!(rt; read_head(alloc, &head) == Ok(FIRST_HEAD));
-    assert!(rt;
-        is_bad_shape(read_owner(alloc, b"1 01 7 ")) && is_bad_shape(read_owner(alloc, b"1 1 7"))
-    );
-    assert!(rt;
-        is_bad_shape(read_owner(alloc, b"2 1 7 ")) && is_bad_shape(read_owner(alloc, b"1 1 7 8 "))
-    );
-    assert!(rt; is_bad_shape(read_head(alloc, &owner)));
-    let bad = Err(AnswerError::Fault(AnswerFault::BadNumber));
-    assert!(rt; read_owner(alloc, b"1 +1 7 ") == bad);
-    assert!(rt; read_owner(alloc, b"1 18446744073709551616 7 ") == bad);
+    expect_owner_value(&rt, alloc, b"1 1 7 ");
+    expect_head_value(&rt, alloc, b"1 1 0 0 0 0 0 0 0 0 0 0 0 0 0 0 0 0 ");
+    expect_no_owner(&rt, alloc, b"1 01 7 ", AnswerFault::BadShape);
+    expect_no_owner(&rt, alloc, b"1 1 7", AnswerFault::BadShape);
+    expect_no_owner(&rt, alloc, b"2 1 7 ", AnswerFault::BadShape);
+    expect_no_owner(&rt, alloc, b"1 1 7 8 ", AnswerFault::BadShape);
+    expect_no_owner(&rt, alloc, b"1 +1 7 ", AnswerFault::BadNumber);
+    let long = b"1 18446744073709551616 7 ";
+    expect_no_owner(&rt, alloc, long, AnswerFault::BadNumber);
+    let owner_alone = read_head(alloc, b"1 1 7 ");
+    assert!(rt; owner_alone == Err(AnswerError::Fault(AnswerFault::BadShape)));
+}
+
+/// The request of a transaction with these bytes of a chunk.
+fn request(rt: &impl Abort, alloc: Global, transaction: &Transaction, bytes: &[u8]) -> String {
+    transaction_request(alloc, &KEYS, transaction, bytes).expect(rt, "a request")
+}
+
+/// Checks that a transaction has no request with these bytes of a chunk.
+fn expect_bad_chunk(rt: &impl Abort, alloc: Global, transaction: &Transaction, bytes: &[u8]) {
+    match transaction_request(alloc, &KEYS, transaction, bytes) {
+        Ok(_) => assert!(rt; false),
+        Err(fault) => assert!(rt; fault == RequestFault::BadChunk),
+    }
 }
 
 #[test]
 fn first_claim_compares_that_nothing_is_there(rt: HostRuntime) {
-    let claim = first_claim(&rt);
-    let text = transaction_request(rt.alloc(), &KEYS, &claim, b"").expect(&rt, "a request");
-    let wanted =
-        r#"{"compare":[{"key":"Yy9vd25lcg==","target":"CREATE","result":"EQUAL","create_revision":"0"},{"key":"Yy9oZWFk","target":"CREATE","result":"EQUAL","create_revision":"0"}],"success":[{"request_put":{"key":"Yy9vd25lcg==","value":"MSAxIDcg"}},{"request_put":{"key":"Yy9oZWFk","value":"MSAxIDAgMCAwIDAgMCAwIDAgMCAwIDAgMCAwIDAgMCAwIDAg"}},{"request_range":{"key":"Yy9oZWFk","range_end":"Yy9w"}}],"failure":[{"request_range":{"key":"Yy9oZWFk","range_end":"Yy9w"}}]}"#;
-    assert!(rt; text.as_str() == wanted);
+    let text = request(&rt, rt.alloc(), &first_claim(&rt), b"");
+    assert!(rt; text.as_str() == CLAIM_REQUEST);
     assert!(rt; GatewayPath::Transaction.as_str() == "/v3/kv/txn");
 }
 
 #[test]
 fn append_puts_chunk_and_head(rt: HostRuntime) {
     let append = Transaction::append(FIRST, FIRST_HEAD, 0, ONE_END).expect(&rt, "an append");
-    let text = transaction_request(rt.alloc(), &KEYS, &append, b"chunk").expect(&rt, "a request");
-    let wanted =
-        r#"{"compare":[{"key":"Yy9vd25lcg==","target":"VALUE","result":"EQUAL","value":"MSAxIDcg"},{"key":"Yy9oZWFk","target":"VALUE","result":"EQUAL","value":"MSAxIDAgMCAwIDAgMCAwIDAgMCAwIDAgMCAwIDAgMCAwIDAg"}],"success":[{"request_put":{"key":"Yy9oZWFk","value":"MSAxIDAgMSAzMTAgNSAyIDAgMCAwIDAgMCAwIDAgMCAwIDAgMCA="}},{"request_put":{"key":"Yy9jLzAwMDAwMDAwMDAwMDAwMDEwMDAwMDAwMDAwMDAwMDAwLzAwMDAwMDAwMDAwMDAwMDA=","value":"Y2h1bms="}},{"request_range":{"key":"Yy9oZWFk","range_end":"Yy9w"}}],"failure":[{"request_range":{"key":"Yy9oZWFk","range_end":"Yy9w"}}]}"#;
-    assert!(rt; text.as_str() == wanted);
+    let text = request(&rt, rt.alloc(), &append, b"chunk");
+    assert!(rt; text.as_str() == APPEND_REQUEST);
 }
 
 #[test]
 fn removal_has_all_chunks_of_a_generation(rt: HostRuntime) {
-    let switched = Head {
-        extent: Extent {
-            generation: Generation {
-                epoch: 1,
-                attempt: 1,
-            },
-            chunks: 0,
-            end: ONE_END,
-        },
-        ..FIRST_HEAD
-    };
-    let removal = Transaction::remove(FIRST, switched, FIRST_HEAD.extent.generation);
-    let removal = removal.expect(&rt, "a removal");
-    let text = transaction_request(rt.alloc(), &KEYS, &removal, b"").expect(&rt, "a request");
-    let part =
-        r#""success":[{"request_delete_range":{"key":"Yy9jLzAwMDAwMDAwMDAwMDAwMDEwMDAwMDAwMDAwMDAwMDAwLw==","range_end":"Yy9jLzAwMDAwMDAwMDAwMDAwMDEwMDAwMDAwMDAwMDAwMDAwMA=="}},{"request_range""#;
-    assert!(rt; text.as_str().contains(part));
+    let removal = Transaction::remove(FIRST, SWITCHED, FIRST_HEAD.extent.generation);
+    let text = request(&rt, rt.alloc(), &removal.expect(&rt, "a removal"), b"");
+    assert!(rt; text.as_str().contains(REMOVAL_PART));
 }
 
 #[test]
@@ -177,57 +219,50 @@ fn look_ranges_over_both_keys(rt: HostRuntime) {
 
 #[test]
 fn chunks_have_bytes(rt: HostRuntime) {
-    let alloc = rt.alloc();
     let stage = Transaction::put_behind(FIRST, FIRST_HEAD, 0).expect(&rt, "a transaction");
-    let claim = first_claim(&rt);
-    match transaction_request(alloc, &KEYS, &stage, b"") {
-        Ok(_) => assert!(rt; false),
-        Err(fault) => assert!(rt; fault == RequestFault::BadChunk),
-    }
-    match transaction_request(alloc, &KEYS, &claim, b"chunk") {
-        Ok(_) => assert!(rt; false),
-        Err(fault) => assert!(rt; fault == RequestFault::BadChunk),
-    }
+    expect_bad_chunk(&rt, rt.alloc(), &stage, b"");
+    expect_bad_chunk(&rt, rt.alloc(), &first_claim(&rt), b"chunk");
+}
+
+/// Checks the look that an answer shows.
+fn expect_look(rt: &impl Abort, alloc: Global, text: &str, wanted: Look) {
+    assert!(rt; read_look(alloc, &KEYS, text.as_bytes()) == Ok(wanted));
 }
 
 #[test]
 fn looks_are_read(rt: HostRuntime) {
     let alloc = rt.alloc();
-    let missing = read_look(alloc, &KEYS, MISSING.as_bytes()).expect(&rt, "a look");
-    let unclaimed = Look {
-        cluster: 9_038_501_614_830_948_466,
-        revision: 42_513,
-        owner: NOBODY,
-        head: NO_HEAD,
-    };
-    assert!(rt; missing == unclaimed);
+    expect_look(&rt, alloc, MISSING, UNCLAIMED);
     let claimed = read_look(alloc, &KEYS, CLAIMED.as_bytes()).expect(&rt, "a look");
     assert!(rt; claimed.owner == FIRST && claimed.head == FIRST_HEAD && claimed.revision == 42_514);
-    assert!(rt; is_bad_shape(read_look(alloc, &Keys { prefix: "d" }, CLAIMED.as_bytes())));
+    let foreign = read_look(alloc, &Keys { prefix: "d" }, CLAIMED.as_bytes());
+    assert!(rt; foreign == Err(AnswerError::Fault(AnswerFault::BadShape)));
+}
+
+/// What an answer to the first claim says.
+fn answer(rt: &impl Abort, alloc: Global, text: &str) -> TransactionAnswer {
+    read_transaction(alloc, &KEYS, &first_claim(rt), text.as_bytes()).expect(rt, "an answer")
 }
 
 #[test]
 fn transactions_have_an_outcome(rt: HostRuntime) {
     let alloc = rt.alloc();
-    let claim = first_claim(&rt);
-    let won = read_transaction(alloc, &KEYS, &claim, WON.as_bytes()).expect(&rt, "an answer");
+    let won = answer(&rt, alloc, WON);
     assert!(rt; won.outcome == Outcome::Applied && won.look.owner == FIRST);
-    let again = read_transaction(alloc, &KEYS, &claim, AGAIN.as_bytes()).expect(&rt, "an answer");
+    let again = answer(&rt, alloc, AGAIN);
     assert!(rt; again.outcome == Outcome::Applied && again.look == won.look);
-    let lost = read_transaction(alloc, &KEYS, &claim, LOST.as_bytes()).expect(&rt, "an answer");
+    let lost = answer(&rt, alloc, LOST);
     assert!(rt; lost.outcome == Outcome::Overtaken && lost.look.revision == 42_516);
-    assert!(rt; lost.look.owner == Owner { epoch: 2, nonce: 9 });
-    assert!(rt; is_bad_shape(read_transaction(alloc, &KEYS, &claim, PUT_ALONE.as_bytes())));
+    assert!(rt; lost.look.owner == SECOND);
+    let put_alone = read_transaction(alloc, &KEYS, &first_claim(&rt), PUT_ALONE.as_bytes());
+    let fault = put_alone.err().expect(&rt, "a fault");
+    assert!(rt; fault == AnswerError::Fault(AnswerFault::BadShape));
 }
 
 #[test]
 fn faults_are_named(rt: HostRuntime) {
     for (body, fault) in FAULTS {
-        match read_look(rt.alloc(), &KEYS, body.as_bytes()) {
-            Ok(_) => assert!(rt; false),
-            Err(error) => assert!(rt; error == AnswerError::Fault(*fault)),
-        }
+        expect_no_look(&rt, rt.alloc(), body.as_bytes(), *fault);
     }
-    let no_text = read_look(rt.alloc(), &KEYS, b"{}\xff");
-    assert!(rt; no_text == Err(AnswerError::Fault(AnswerFault::NotJson)));
+    expect_no_look(&rt, rt.alloc(), b"{}\xff", AnswerFault::NotJson);
 }
