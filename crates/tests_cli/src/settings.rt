@@ -1,7 +1,7 @@
 //! Tests of what a configuration says of the page.
 use server_settings::{PageFault, content_policy, page_fault, page_title, settings_text};
-use std::alloc::{AllocError, Global};
-use std::test::Fail;
+use std::alloc::Global;
+use std::process::Abort;
 
 /// Addresses of map tiles.
 const ADDRESSES: &[&str] = &[
@@ -71,64 +71,67 @@ const FAULTS: &[(&str, Option<PageFault>)] = &[
     ),
 ];
 
-/// What is wrong with the page whose map tiles are at this address.
-fn tiles_fault(alloc: Global, address: &str) -> Result<Option<PageFault>, AllocError> {
-    let text = format!(in alloc; "{{\"page\":{{\"tiles\":\"{address}\"}}}}")?;
-    page_fault(alloc, text.as_bytes())
+/// Checks what is wrong with a page.
+fn expect_fault(rt: &impl Abort, alloc: Global, text: &str, wanted: Option<PageFault>) {
+    let found = page_fault(alloc, text.as_bytes()).expect(rt, "memory");
+    assert!(rt; found == wanted, "{text}");
+}
+
+/// Checks what is wrong with the page whose map tiles are at this address.
+fn expect_tiles(rt: &impl Abort, alloc: Global, address: &str, wanted: Option<PageFault>) {
+    let text = format!(in alloc; "{{\"page\":{{\"tiles\":\"{address}\"}}}}");
+    expect_fault(rt, alloc, text.expect(rt, "memory").as_str(), wanted);
 }
 
 #[test]
-fn tells_addresses_from_other_texts(rt: HostRuntime) -> Result<(), Fail> {
+fn tells_addresses_from_other_texts(rt: HostRuntime) {
     for address in ADDRESSES {
-        assert!(rt; tiles_fault(rt.alloc(), address)? == None, "{address}");
+        expect_tiles(&rt, rt.alloc(), address, None);
     }
     for text in OTHERS {
-        assert!(rt;
-            tiles_fault(rt.alloc(), text)? == Some(PageFault::Tiles),
-            "{text}"
-        );
+        expect_tiles(&rt, rt.alloc(), text, Some(PageFault::Tiles));
     }
-    Ok(())
 }
 
 #[test]
-fn reads_a_page(rt: HostRuntime) -> Result<(), Fail> {
-    let told = settings_text(rt.alloc(), PAGE.as_bytes())?.expect(&rt, "a page");
-    assert!(rt; told.as_slice() == SETTINGS.as_bytes());
-    assert!(rt; settings_text(rt.alloc(), b"{\"page\":null}")?.is_none());
-    Ok(())
+fn reads_a_page(rt: HostRuntime) {
+    let told = settings_text(rt.alloc(), PAGE.as_bytes()).expect(&rt, "memory");
+    assert!(rt; told.expect(&rt, "a page").as_slice() == SETTINGS.as_bytes());
+    let none = settings_text(rt.alloc(), b"{\"page\":null}").expect(&rt, "memory");
+    assert!(rt; none.is_none());
+}
+
+/// Checks that a text gives the page no title.
+fn expect_no_title(rt: &impl Abort, alloc: Global, text: &str) {
+    let title = page_title(alloc, text.as_bytes()).expect(rt, "memory");
+    assert!(rt; title.is_none(), "{text}");
 }
 
 #[test]
-fn reads_a_title(rt: HostRuntime) -> Result<(), Fail> {
+fn reads_a_title(rt: HostRuntime) {
     let text = r#"{"page":{"title":"Zürich","attribution":"City"}}"#;
-    let title = page_title(rt.alloc(), text.as_bytes())?.expect(&rt, "a title");
-    assert!(rt; title.as_str() == "Zürich");
+    let title = page_title(rt.alloc(), text.as_bytes()).expect(&rt, "memory");
+    assert!(rt; title.expect(&rt, "a title").as_str() == "Zürich");
     for text in UNTITLED {
-        assert!(rt;
-            page_title(rt.alloc(), text.as_bytes())?.is_none(),
-            "{text}"
-        );
+        expect_no_title(&rt, rt.alloc(), text);
     }
-    Ok(())
+}
+
+/// Checks the content policy of a page.
+fn expect_policy(rt: &impl Abort, alloc: Global, text: &str, wanted: &str) {
+    let policy = content_policy(alloc, text.as_bytes()).expect(rt, "memory");
+    assert!(rt; policy.as_slice() == wanted.as_bytes());
 }
 
 #[test]
-fn names_the_origin_of_tiles(rt: HostRuntime) -> Result<(), Fail> {
-    let policy = content_policy(rt.alloc(), b"{}")?;
-    assert!(rt; policy.as_slice() == NO_TILES.as_bytes());
-    let policy = content_policy(rt.alloc(), PAGE.as_bytes())?;
-    assert!(rt; policy.as_slice() == TILES.as_bytes());
-    Ok(())
+fn names_the_origin_of_tiles(rt: HostRuntime) {
+    expect_policy(&rt, rt.alloc(), "{}", NO_TILES);
+    expect_policy(&rt, rt.alloc(), PAGE, TILES);
 }
 
 #[test]
-fn names_what_is_wrong(rt: HostRuntime) -> Result<(), Fail> {
+fn names_what_is_wrong(rt: HostRuntime) {
     for (text, fault) in FAULTS {
-        assert!(rt;
-            page_fault(rt.alloc(), text.as_bytes())? == *fault,
-            "{text}"
-        );
+        expect_fault(&rt, rt.alloc(), text, *fault);
     }
-    Ok(())
 }
