@@ -40,6 +40,18 @@ fn text(rt: &impl AllocGlobal, text: &[u8]) -> Result<Vec<u8>, AllocError> {
     Vec::from_slice(rt.alloc(), text)
 }
 
+/// Checks why no reservation is made for a payload of a client, or that one is made, which is released.
+fn expect_fault<K: LogName, L: Log, R: TestRuntime>(
+    rt: &R,
+    keeper: &CommitLog<K, L, CountedSpace>,
+    client: usize,
+    payload: &[u8],
+    wanted: Option<ReserveFault>,
+) {
+    let payload = text(rt, payload).expect(rt, "memory");
+    assert!(rt; reserve_fault(rt, keeper, client, payload) == wanted);
+}
+
 /// Appends a payload, and waits until it is synced for the response that shows it.
 fn reply_once_synced<K: LogName, L: Log, R: JoinRuntime>(
     rt: &R,
@@ -222,23 +234,21 @@ fn expect_bounds<K: LogName, L: Log, R: TestRuntime>(
         CLIENTS,
     )?;
     assert!(rt; keeper.may_respond(&nothing) == ResponseTiming::Now && nothing.len() == 0);
-    assert!(rt; reserve_fault(rt, &keeper, AUTHOR, text(rt, b"")?) == Some(ReserveFault::Untaken));
-    assert!(rt;
-        reserve_fault(rt, &keeper, AUTHOR, text(rt, b"four")?) == Some(ReserveFault::NoRoom)
-    );
-    assert!(rt; reserve_fault(rt, &keeper, AUTHOR, text(rt, b"one")?) == None);
-    let (first, second, third) = (text(rt, b"one")?, text(rt, b"two")?, text(rt, b"two")?);
-    let Ok(place) = keeper.reserve(rt, AUTHOR, first) else {
+    expect_fault(rt, &keeper, AUTHOR, b"", Some(ReserveFault::Untaken));
+    let no_room = Some(ReserveFault::NoRoom);
+    expect_fault(rt, &keeper, AUTHOR, b"four", no_room);
+    expect_fault(rt, &keeper, AUTHOR, b"one", None);
+    let Ok(place) = keeper.reserve(rt, AUTHOR, text(rt, b"one")?) else {
         return Err("a place".into());
     };
-    let none = reserve_fault(rt, &keeper, AUTHOR, second);
+    expect_fault(rt, &keeper, AUTHOR, b"two", no_room);
     let stamp = keeper.append(rt, place).ok().ok_or("a stamp")?;
-    assert!(rt; none == Some(ReserveFault::NoRoom));
     assert!(rt; keeper.may_respond(&stamp) == ResponseTiming::Later && stamp.len() == 1);
     // What reads shows it too, and waits for it.
     assert!(rt; keeper.log_position(&nothing).len() == 1);
     keeper.stop(rt);
-    assert!(rt; reserve_fault(rt, &keeper, AUTHOR, third) == Some(ReserveFault::Stopping));
+    let stopping = Some(ReserveFault::Stopping);
+    expect_fault(rt, &keeper, AUTHOR, b"two", stopping);
     Ok(())
 }
 
@@ -258,7 +268,7 @@ fn expect_settlement_over_journal<R: TestRuntime>(rt: &R) -> Result<(), Fail> {
 }
 
 /// So many payloads of three bytes.
-fn texts(rt: &impl AllocGlobal, count: usize) -> Result<Vec<Vec<u8>>, Fail> {
+fn texts(rt: &impl AllocGlobal, count: usize) -> Result<Vec<Vec<u8>>, AllocError> {
     let mut texts = Vec::new(rt.alloc());
     for _ in 0..count {
         texts.push(text(rt, b"one")?)?;
@@ -290,15 +300,14 @@ fn expect_settlement<K: LogName, L: Log, R: TestRuntime>(
         reserve_all_fault(rt, &keeper, AUTHOR, texts(rt, 3)?) == Some(ReserveFault::NoRoom)
     );
     assert!(rt; reserve_all_fault(rt, &keeper, AUTHOR, texts(rt, 2)?) == None);
-    let (two, one) = (texts(rt, 2)?, text(rt, b"one")?);
-    let Ok(places) = keeper.reserve_all(rt, AUTHOR, two) else {
+    let Ok(places) = keeper.reserve_all(rt, AUTHOR, texts(rt, 2)?) else {
         return Err("places".into());
     };
-    let none = reserve_fault(rt, &keeper, AUTHOR, one);
+    let no_room = Some(ReserveFault::NoRoom);
+    expect_fault(rt, &keeper, AUTHOR, b"one", no_room);
     let stamp = keeper.append_chosen(rt, &nothing, places, &[false, true]);
-    assert!(rt; none == Some(ReserveFault::NoRoom));
     assert!(rt; stamp.ok().map(|stamp| stamp.len()) == Some(1));
-    assert!(rt; reserve_fault(rt, &keeper, AUTHOR, text(rt, b"one")?) == None);
+    expect_fault(rt, &keeper, AUTHOR, b"one", None);
     Ok(())
 }
 
@@ -340,7 +349,7 @@ fn append_waiting<K: LogName, L: Log, R: TestRuntime>(
     nothing: &LogPosition<K, L>,
     client: usize,
     count: usize,
-) -> Result<Option<ReserveFault>, Fail> {
+) -> Result<Option<ReserveFault>, AllocError> {
     let kept = vec![in rt.alloc(); true; count]?;
     match keeper.reserve_all(rt, client, texts(rt, count)?) {
         Ok(places) => {
@@ -349,6 +358,30 @@ fn append_waiting<K: LogName, L: Log, R: TestRuntime>(
         }
         Err(fault) => Ok(Some(fault)),
     }
+}
+
+/// Checks why so many payloads of a client aren't reserved, or that they are, and wait for the flusher.
+fn expect_waiting<K: LogName, L: Log, R: TestRuntime>(
+    rt: &R,
+    keeper: &CommitLog<K, L, CountedSpace>,
+    nothing: &LogPosition<K, L>,
+    client: usize,
+    count: usize,
+    wanted: Option<ReserveFault>,
+) {
+    let found = append_waiting(rt, keeper, nothing, client, count);
+    assert!(rt; found.expect(rt, "memory") == wanted);
+}
+
+/// Checks that a client uses up its share.
+fn expect_full_share<K: LogName, L: Log, R: TestRuntime>(
+    rt: &R,
+    keeper: &CommitLog<K, L, CountedSpace>,
+    nothing: &LogPosition<K, L>,
+    client: usize,
+) {
+    expect_waiting(rt, keeper, nothing, client, 4_096, None);
+    expect_fault(rt, keeper, client, b"one", Some(ReserveFault::Crowded));
 }
 
 /// Three clients use up their shares, and a fourth all but a reservation for each of two others.
@@ -371,19 +404,18 @@ fn expect_shares<K: LogName, L: Log, R: TestRuntime>(
         space,
         CLIENTS,
     )?;
-    assert!(rt; append_waiting(rt, &keeper, &nothing, 1, 4_097)? == Some(ReserveFault::Untaken));
-    assert!(rt; append_waiting(rt, &keeper, &nothing, CLIENTS, 1)? == Some(ReserveFault::Crowded));
-    for client in 1..4 {
-        assert!(rt; append_waiting(rt, &keeper, &nothing, client, 4_096)? == None);
-        assert!(rt;
-            reserve_fault(rt, &keeper, client, text(rt, b"one")?) == Some(ReserveFault::Crowded)
-        );
-    }
-    assert!(rt; append_waiting(rt, &keeper, &nothing, 4, 4_095)? == Some(ReserveFault::Crowded));
-    assert!(rt; append_waiting(rt, &keeper, &nothing, 4, 4_094)? == None);
+    let crowded = Some(ReserveFault::Crowded);
+    let untaken = Some(ReserveFault::Untaken);
+    expect_waiting(rt, &keeper, &nothing, 1, 4_097, untaken);
+    expect_waiting(rt, &keeper, &nothing, CLIENTS, 1, crowded);
+    expect_full_share(rt, &keeper, &nothing, 1);
+    expect_full_share(rt, &keeper, &nothing, 2);
+    expect_full_share(rt, &keeper, &nothing, 3);
+    expect_waiting(rt, &keeper, &nothing, 4, 4_095, crowded);
+    expect_waiting(rt, &keeper, &nothing, 4, 4_094, None);
     // A reservation that was released can be made again.
-    assert!(rt; reserve_fault(rt, &keeper, 5, text(rt, b"one")?) == None);
-    assert!(rt; append_waiting(rt, &keeper, &nothing, 5, 1)? == None);
-    assert!(rt; reserve_fault(rt, &keeper, 5, text(rt, b"one")?) == Some(ReserveFault::Crowded));
+    expect_fault(rt, &keeper, 5, b"one", None);
+    expect_waiting(rt, &keeper, &nothing, 5, 1, None);
+    expect_fault(rt, &keeper, 5, b"one", crowded);
     Ok(())
 }

@@ -1,10 +1,13 @@
 //! Tests of the records of a journal. The expected bytes come from another program's SipHash-1-3 with both keys 0.
+ghost use Rattle.std.specs.Prelude.{◌+◌, ◌<◌, ◌^◌, length};
+
 use journal_file::{
     AppendFault, CutTail, FileStorage, Journal, JournalEnding, JournalOpenFault, Log,
     MemoryStorage, MemoryTailStore, Signature, are_taken, ending_of, group_of, push, read,
 };
 use std::alloc::{AllocError, Global};
 use std::fs::{self, File};
+use std::process::Abort;
 use std::test::Fail;
 
 const FIRST: &[u8] = &[0, 0, 0, 3, 37, 19, 247, 30, 17, 226, 15, 101, 111, 110, 101];
@@ -39,77 +42,105 @@ fn flip(bytes: &mut Vec<u8>, place: usize) {
     }
 }
 
+/// The same, which are there.
+fn records(rt: &impl Abort, alloc: Global) -> Vec<u8> {
+    two_records(alloc).expect(rt, "memory")
+}
+
 #[test]
 fn records_are_written(rt: HostRuntime) {
-    let bytes = two_records(rt.alloc()).expect(&rt, "memory");
-    assert!(rt; bytes.starts_with(FIRST) && bytes.ends_with(SECOND));
-    assert!(rt; bytes.len() == 31);
+    let bytes = records(&rt, rt.alloc());
+    assert!(rt; bytes.starts_with(FIRST) && bytes.ends_with(SECOND) && bytes.len() == 31);
     let one = texts(rt.alloc(), b"one").expect(&rt, "memory");
     assert!(rt; are_taken(&one));
     let group = group_of(rt.alloc(), 0, 0, 0, &one).expect(&rt, "memory");
     assert!(rt; group.bytes.starts_with(MARKED) && group.bytes.len() == 59);
 }
 
-#[test]
-fn cut_files_are_read(rt: HostRuntime) {
-    let alloc = rt.alloc();
-    let bytes = two_records(alloc).expect(&rt, "memory");
-    for len in 0..32usize {
-        let front = bytes.get(..len).expect(&rt, "a front");
-        let found = read(alloc, 0, front).expect(&rt, "memory");
-        let count = if len < 15 {
-            0
-        } else if len < 31 {
-            1
-        } else {
-            2
-        };
-        assert!(rt; found.records.len() == count);
+/// Checks how many records are read.
+fn expect_count(rt: &impl Abort, alloc: Global, bytes: &[u8], wanted: usize) {
+    let found = read(alloc, 0, bytes).expect(rt, "memory");
+    assert!(rt; found.records.len() == wanted);
+}
+
+/// How many records are whole in so many bytes.
+fn whole_in(len: usize) -> usize {
+    if len < 15 {
+        0
+    } else if len < 31 {
+        1
+    } else {
+        2
     }
-    let found = read(alloc, 0, &bytes).expect(&rt, "memory");
+}
+
+/// Checks what is read of both records.
+fn expect_both(rt: &impl Abort, alloc: Global, bytes: &[u8]) {
+    let found = read(alloc, 0, bytes).expect(rt, "memory");
     assert!(rt; found.whole == 31 && found.sum == 10_694_778_205_304_935_905);
-    let last = found.records.last().expect(&rt, "a record");
+    let last = found.records.last().expect(rt, "a record");
     assert!(rt; last.offset == 27 && last.text == b"two!".as_slice());
 }
 
 #[test]
-fn changed_files_are_read(rt: HostRuntime) {
-    let alloc = rt.alloc();
-    for place in 0..31usize {
-        let mut bytes = two_records(alloc).expect(&rt, "memory");
-        flip(&mut bytes, place);
-        let found = read(alloc, 0, &bytes).expect(&rt, "memory");
-        let count = if place < 15 { 0 } else { 1 };
-        assert!(rt; found.records.len() == count);
+fn cut_files_are_read(rt: HostRuntime) {
+    let bytes = records(&rt, rt.alloc());
+    for len in 0..32usize {
+        let front = bytes.get(..len).expect(&rt, "a front");
+        expect_count(&rt, rt.alloc(), front, whole_in(len));
     }
+    expect_both(&rt, rt.alloc(), &bytes);
+}
+
+/// Checks how many records are read where the lowest bit of a byte is flipped.
+fn expect_changed(rt: &impl Abort, alloc: Global, place: usize) {
+    let mut bytes = records(rt, alloc);
+    flip(&mut bytes, place);
+    expect_count(rt, alloc, &bytes, if place < 15 { 0 } else { 1 });
+}
+
+#[test]
+fn changed_files_are_read(rt: HostRuntime) {
+    for place in 0..31usize {
+        expect_changed(&rt, rt.alloc(), place);
+    }
+}
+
+/// Checks how bytes at a position end a journal.
+fn expect_ending(rt: &impl Abort, position: u64, bytes: &[u8], wanted: JournalEnding)
+    requires { position + length bytes.now < 2 ^ 64 }
+{
+    assert!(rt; ending_of(position, bytes) == wanted);
 }
 
 #[test]
 fn endings_are_decided(rt: HostRuntime) {
-    assert!(rt; ending_of(0, &[]) == JournalEnding::Whole);
-    assert!(rt; ending_of(0, &MARKED[..43]) == JournalEnding::Torn);
+    expect_ending(&rt, 0, &[], JournalEnding::Whole);
+    expect_ending(&rt, 0, &MARKED[..43], JournalEnding::Torn);
     // The mark was written for the beginning of a file.
-    assert!(rt; ending_of(59, MARKED) == JournalEnding::Moved(71));
-    assert!(rt; ending_of(59, &MARKED[..43]) == JournalEnding::Torn);
-    assert!(rt; ending_of(59, b"\0") == JournalEnding::Torn);
-    assert!(rt; ending_of(59, b"other") == JournalEnding::Unexplained);
-    assert!(rt; ending_of(44, b"other") == JournalEnding::Foreign(Signature::Text));
+    expect_ending(&rt, 59, MARKED, JournalEnding::Moved(71));
+    expect_ending(&rt, 59, &MARKED[..43], JournalEnding::Torn);
+    expect_ending(&rt, 59, b"\0", JournalEnding::Torn);
+    expect_ending(&rt, 59, b"other", JournalEnding::Unexplained);
+    let text = JournalEnding::Foreign(Signature::Text);
+    expect_ending(&rt, 44, b"other", text);
     // The first record is whole, and its checksum is another after other records.
-    assert!(rt; ending_of(59, FIRST) == JournalEnding::Unexplained);
+    expect_ending(&rt, 59, FIRST, JournalEnding::Unexplained);
+}
+
+/// Checks as what a file that begins so is recognized.
+fn expect_foreign(rt: &impl Abort, bytes: &[u8], wanted: Signature) {
+    expect_ending(rt, 0, bytes, JournalEnding::Foreign(wanted));
 }
 
 #[test]
 fn foreign_files_are_recognized(rt: HostRuntime) {
-    let told = |bytes: &[u8]| match ending_of(0, bytes) {
-        JournalEnding::Foreign(signature) => Some(signature),
-        _ => None,
-    };
-    assert!(rt; told(b"\x1f\x8b\x08") == Some(Signature::Gzip));
-    assert!(rt; told(b"\xef\xbb\xbf{}") == Some(Signature::ByteOrderMark));
-    assert!(rt; told(&[0; 64]) == Some(Signature::Zeros));
-    assert!(rt; told(&MARKED[1..]) == Some(Signature::Records));
-    assert!(rt; told(b"2024-01-01 started\r\n\xff") == Some(Signature::Text));
-    assert!(rt; told(b"\x7fELF") == Some(Signature::Unknown));
+    expect_foreign(&rt, b"\x1f\x8b\x08", Signature::Gzip);
+    expect_foreign(&rt, b"\xef\xbb\xbf{}", Signature::ByteOrderMark);
+    expect_foreign(&rt, &[0; 64], Signature::Zeros);
+    expect_foreign(&rt, &MARKED[1..], Signature::Records);
+    expect_foreign(&rt, b"2024-01-01 started\r\n\xff", Signature::Text);
+    expect_foreign(&rt, b"\x7fELF", Signature::Unknown);
     assert!(rt; ending_of(0, b"text").is_opened() == false);
 }
 
@@ -136,45 +167,92 @@ fn journal_of_two(alloc: Global, calls_left: u32) -> Option<Journal<MemoryStorag
     Some(journal)
 }
 
+/// The same, which is there.
+fn open_journal(rt: &impl Abort, alloc: Global, calls_left: u32) -> Journal<MemoryStorage> {
+    journal_of_two(alloc, calls_left).expect(rt, "a journal")
+}
+
+/// Its storage.
+fn storage_of_two(rt: &impl Abort, alloc: Global) -> MemoryStorage {
+    open_journal(rt, alloc, 10).into_storage()
+}
+
+/// The same without the last byte: the first group has 59 bytes, the mark of the second 44, its payload's record 16, of
+/// which one byte is lost.
+fn torn_storage(rt: &impl Abort, alloc: Global) -> MemoryStorage {
+    let mut medium = storage_of_two(rt, alloc);
+    medium.bytes.truncate(118);
+    medium
+}
+
+/// Checks that a journal isn't opened, and why.
+fn expect_refused(rt: &impl Abort, alloc: Global, medium: MemoryStorage, fault: JournalOpenFault) {
+    assert!(rt; Journal::open(alloc, medium).err() == Some(fault));
+}
+
+/// Appends one payload behind so many, and checks the outcome.
+fn expect_append(
+    rt: &impl Abort,
+    alloc: Global,
+    journal: &mut Journal<MemoryStorage>,
+    behind: u64,
+    text: &[u8],
+    wanted: Result<u64, AppendFault>,
+) {
+    let list = texts(alloc, text).expect(rt, "memory");
+    assert!(rt; journal.append(behind, &list) == wanted);
+}
+
 #[test]
 fn journals_count(rt: HostRuntime) {
-    let mut journal = journal_of_two(rt.alloc(), 10).expect(&rt, "a journal");
-    let one = texts(rt.alloc(), b"one").expect(&rt, "memory");
-    assert!(rt; journal.append(0, &one) == Err(AppendFault::Conflict));
-    let none = texts(rt.alloc(), b"").expect(&rt, "memory");
-    assert!(rt; journal.append(2, &none) == Err(AppendFault::Untaken));
-    assert!(rt; journal.append(2, &one) == Ok(3));
+    let alloc = rt.alloc();
+    let mut journal = open_journal(&rt, alloc, 10);
+    let conflict = Err(AppendFault::Conflict);
+    expect_append(&rt, alloc, &mut journal, 0, b"one", conflict);
+    let untaken = Err(AppendFault::Untaken);
+    expect_append(&rt, alloc, &mut journal, 2, b"", untaken);
+    expect_append(&rt, alloc, &mut journal, 2, b"one", Ok(3));
+}
+
+/// Checks how many payloads are read from a position on, and the first of them.
+fn expect_read(
+    rt: &impl Abort,
+    journal: &mut Journal<MemoryStorage>,
+    position: u64,
+    count: usize,
+    first: &[u8],
+) {
+    let found = journal.read_from(position).expect(rt, "texts");
+    assert!(rt; found.len() == count);
+    match found.first() {
+        Some(text) => assert!(rt; text.as_slice() == first),
+        None => assert!(rt; false),
+    }
 }
 
 #[test]
 fn journals_are_read(rt: HostRuntime) {
-    let mut journal = journal_of_two(rt.alloc(), 10).expect(&rt, "a journal");
-    let found = journal.read_from(1).expect(&rt, "texts");
-    assert!(rt; found.len() == 1 && found[0].as_slice() == b"two!".as_slice());
+    let mut journal = open_journal(&rt, rt.alloc(), 10);
+    expect_read(&rt, &mut journal, 1, 1, b"two!");
     assert!(rt; journal.sync() == Ok(2));
     let mut journal = Journal::open(rt.alloc(), journal.into_storage()).expect(&rt, "a journal");
-    let found = journal.read_from(0).expect(&rt, "texts");
-    assert!(rt; found.len() == 2 && found[0].as_slice() == b"one".as_slice());
+    expect_read(&rt, &mut journal, 0, 2, b"one");
 }
+
+/// What is cut of that storage.
+const CUT: CutTail = CutTail {
+    from: 103,
+    count: 15,
+};
 
 #[test]
 fn torn_journals_are_cut(rt: HostRuntime) {
-    let mut medium = journal_of_two(rt.alloc(), 10)
-        .expect(&rt, "a journal")
-        .into_storage();
-    // The first group has 59 bytes, the mark of the second 44, its payload's record 16, of which one byte is lost.
-    medium.bytes.truncate(118);
+    let medium = torn_storage(&rt, rt.alloc());
     let behind = medium.bytes.get(103..).unwrap_or_default();
     let behind = Vec::from_slice(rt.alloc(), behind).expect(&rt, "memory");
     let mut aside = aside(rt.alloc(), true);
     let mut journal = Journal::recover(rt.alloc(), medium, &mut aside).expect(&rt, "a journal");
-    assert!(rt;
-        journal.cut()
-            == Some(CutTail {
-                from: 103,
-                count: 15
-            })
-    );
+    assert!(rt; journal.cut() == Some(CUT));
     assert!(rt; aside.from == 103 && aside.bytes == behind);
     assert!(rt; journal.sync() == Ok(1));
     assert!(rt; journal.into_storage().bytes.len() == 103);
@@ -182,10 +260,7 @@ fn torn_journals_are_cut(rt: HostRuntime) {
 
 #[test]
 fn what_is_not_kept_is_not_cut(rt: HostRuntime) {
-    let mut medium = journal_of_two(rt.alloc(), 10)
-        .expect(&rt, "a journal")
-        .into_storage();
-    medium.bytes.truncate(118);
+    let medium = torn_storage(&rt, rt.alloc());
     let mut none = aside(rt.alloc(), false);
     let fault = Journal::recover(rt.alloc(), medium, &mut none).err();
     assert!(rt; fault == Some(JournalOpenFault::NotKept));
@@ -193,44 +268,35 @@ fn what_is_not_kept_is_not_cut(rt: HostRuntime) {
 
 #[test]
 fn torn_journals_are_not_opened(rt: HostRuntime) {
-    let mut medium = journal_of_two(rt.alloc(), 10)
-        .expect(&rt, "a journal")
-        .into_storage();
-    medium.bytes.truncate(118);
-    let fault = Journal::open(rt.alloc(), medium).err();
-    assert!(rt; fault == Some(JournalOpenFault::Torn(103)));
+    let medium = torn_storage(&rt, rt.alloc());
+    expect_refused(&rt, rt.alloc(), medium, JournalOpenFault::Torn(103));
 }
 
 #[test]
 fn shortened_journals_are_refused(rt: HostRuntime) {
-    let mut medium = journal_of_two(rt.alloc(), 10)
-        .expect(&rt, "a journal")
-        .into_storage();
+    let mut medium = storage_of_two(&rt, rt.alloc());
     assert!(rt; medium.bytes.len() > 57);
     // One byte of the first payload is removed, so that the mark of the second group stands elsewhere.
     if medium.bytes.len() > 57 {
         let _ = medium.bytes.remove(57);
     }
-    let fault = Journal::open(rt.alloc(), medium).err();
-    assert!(rt; fault == Some(JournalOpenFault::Damaged(59)));
+    expect_refused(&rt, rt.alloc(), medium, JournalOpenFault::Damaged(59));
 }
 
 #[test]
 fn damaged_journals_are_refused(rt: HostRuntime) {
-    let mut medium = journal_of_two(rt.alloc(), 10)
-        .expect(&rt, "a journal")
-        .into_storage();
+    let mut medium = storage_of_two(&rt, rt.alloc());
     flip(&mut medium.bytes, 50);
-    let fault = Journal::open(rt.alloc(), medium).err();
-    assert!(rt; fault == Some(JournalOpenFault::Damaged(59)));
+    expect_refused(&rt, rt.alloc(), medium, JournalOpenFault::Damaged(59));
 }
 
 #[test]
 fn failing_journals_stop(rt: HostRuntime) {
-    let mut journal = journal_of_two(rt.alloc(), 5).expect(&rt, "a journal");
+    let alloc = rt.alloc();
+    let mut journal = open_journal(&rt, alloc, 5);
     assert!(rt; journal.sync().is_err());
-    let one = texts(rt.alloc(), b"one").expect(&rt, "memory");
-    assert!(rt; journal.append(2, &one) == Err(AppendFault::Unknown));
+    let unknown = Err(AppendFault::Unknown);
+    expect_append(&rt, alloc, &mut journal, 2, b"one", unknown);
     assert!(rt; journal.read_from(0).is_err());
 }
 
@@ -246,9 +312,7 @@ fn unreadable_files_are_refused(rt: HostRuntime) -> Result<(), Fail> {
 
 #[test]
 fn torn_files_that_stay_torn_are_refused(rt: HostRuntime) -> Result<(), Fail> {
-    let mut medium = journal_of_two(rt.alloc(), 10)
-        .expect(&rt, "a journal")
-        .into_storage();
+    let mut medium = storage_of_two(&rt, rt.alloc());
     medium.bytes.truncate(118);
     fs::write(&rt, "torn", medium.bytes.as_slice())?;
     // A file that is open for reading alone can't be cut.

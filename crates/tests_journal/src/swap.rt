@@ -10,6 +10,7 @@ use journal_swap::{
 };
 use std::alloc::{AllocError, Global};
 use std::cell::{Cell, RefCell};
+use std::process::Abort;
 
 /// As many calls as any test makes at the most.
 const MANY: u32 = 1_000;
@@ -192,28 +193,77 @@ fn offer(
     shorter.is_some() && board.ready.try_replace(shorter).is_ok()
 }
 
-/// How many payloads are read from a log.
-fn read_count(log: &mut LogUnderTest<'_>) -> Result<usize, ReadFault> {
-    Ok(log.read_from(0)?.len())
+/// The state of a log's probe.
+type Board = ProbeState<Journal<MemoryStorage>>;
+
+/// A log of "one" and "two", which is there.
+fn open_log<'b>(rt: &impl Abort, alloc: Global, board: &'b Board, calls: u32) -> LogUnderTest<'b> {
+    log_of_two(alloc, board, calls).expect(rt, "a log")
+}
+
+/// Offers a compacted log, on whose storage so many calls succeed.
+fn expect_offer(rt: &impl Abort, alloc: Global, board: &Board, calls: u32) {
+    assert!(rt; offer(board, compacted_log(alloc, calls)));
+}
+
+/// Appends a payload and syncs it, and checks the outcome.
+fn expect_append(
+    rt: &impl Abort,
+    alloc: Global,
+    log: &mut LogUnderTest<'_>,
+    count: u64,
+    text: &[u8],
+    wanted: Result<u64, AppendFault>,
+) {
+    assert!(rt; append_and_sync(alloc, log, count, text) == wanted);
+}
+
+/// Checks how many payloads are read from a log.
+fn expect_count(rt: &impl Abort, log: &mut LogUnderTest<'_>, wanted: usize) {
+    let found = log.read_from(0).expect(rt, "payloads");
+    assert!(rt; found.len() == wanted);
+}
+
+/// Checks that a log isn't read.
+fn expect_unread(rt: &impl Abort, log: &mut LogUnderTest<'_>) {
+    assert!(rt; log.read_from(0).err() == Some(ReadFault::NoAnswer));
+}
+
+/// Checks that no compacted log took the place.
+fn expect_none(rt: &impl Abort, board: &Board) {
+    assert!(rt; board.replaced.get().is_none());
+}
+
+/// Checks that a compacted log that was offered didn't take the place.
+fn expect_ended(rt: &impl Abort, board: &Board) {
+    match board.ended.get() {
+        Some((is_exchanged, _)) => assert!(rt; !is_exchanged),
+        None => assert!(rt; false),
+    }
+}
+
+/// Checks the log end behind a compacted log that took the place.
+fn expect_exchanged(rt: &impl Abort, board: &Board, seal: LogEnd) {
+    assert!(rt; board.replaced.get() == Some(seal));
+    assert!(rt; board.ended.get() == Some((true, seal.position)));
+    assert!(rt; board.synced.get() == Some(seal));
 }
 
 #[test]
 fn files_are_replaced(rt: HostRuntime) {
     let alloc = rt.alloc();
     let board = new_probe_state();
-    let mut log = log_of_two(alloc, &board, MANY).expect(&rt, "a log");
-    assert!(rt; read_count(&mut log) == Ok(2));
-    let mut log = log_of_two(alloc, &board, MANY).expect(&rt, "a log");
-    assert!(rt; offer(&board, compacted_log(alloc, MANY)));
-    assert!(rt; append_and_sync(alloc, &mut log, 2, b"three") == Ok(3));
+    expect_count(&rt, &mut open_log(&rt, alloc, &board, MANY), 2);
+    let mut log = open_log(&rt, alloc, &board, MANY);
+    expect_offer(&rt, alloc, &board, MANY);
+    expect_append(&rt, alloc, &mut log, 2, b"three", Ok(3));
     let seal = log_end_of(alloc, b"both", b"three").expect(&rt, "a seal");
-    assert!(rt; board.replaced.get() == Some(seal));
-    assert!(rt; board.ended.get() == Some((true, seal.position)));
-    assert!(rt; board.synced.get() == Some(seal));
-    assert!(rt; append_and_sync(alloc, &mut log, 2, b"four") == Err(AppendFault::Conflict));
-    assert!(rt; append_and_sync(alloc, &mut log, 3, b"four") == Ok(4));
+    expect_exchanged(&rt, &board, seal);
+    let conflict = Err(AppendFault::Conflict);
+    expect_append(&rt, alloc, &mut log, 2, b"four", conflict);
+    expect_append(&rt, alloc, &mut log, 3, b"four", Ok(4));
     // Its file doesn't hold all that was appended.
-    assert!(rt; read_count(&mut log) == Err(ReadFault::NoAnswer));
+    expect_unread(&rt, &mut log);
 }
 
 #[test]
@@ -221,76 +271,89 @@ fn a_log_that_lacks_payloads_takes_no_place(rt: HostRuntime) {
     let alloc = rt.alloc();
     let board = new_probe_state();
     board.is_kept.set(false);
-    let mut log = log_of_two(alloc, &board, MANY).expect(&rt, "a log");
-    assert!(rt; offer(&board, compacted_log(alloc, MANY)));
-    assert!(rt; append_and_sync(alloc, &mut log, 2, b"three") == Ok(3));
-    assert!(rt; board.replaced.get().is_none() && read_count(&mut log) == Ok(3));
+    let mut log = open_log(&rt, alloc, &board, MANY);
+    expect_offer(&rt, alloc, &board, MANY);
+    expect_append(&rt, alloc, &mut log, 2, b"three", Ok(3));
+    expect_none(&rt, &board);
+    expect_count(&rt, &mut log, 3);
     let bytes = board.synced.get().expect(&rt, "a seal").position;
     assert!(rt; board.ended.get() == Some((false, bytes)));
     // The copies kept from here on come after another log end.
     board.is_kept.set(true);
-    assert!(rt; append_and_sync(alloc, &mut log, 3, b"four") == Ok(4));
-    assert!(rt; offer(&board, compacted_log(alloc, MANY)));
-    assert!(rt; append_and_sync(alloc, &mut log, 4, b"five") == Ok(5));
-    assert!(rt; board.replaced.get().is_none() && read_count(&mut log) == Ok(5));
+    expect_append(&rt, alloc, &mut log, 3, b"four", Ok(4));
+    expect_offer(&rt, alloc, &board, MANY);
+    expect_append(&rt, alloc, &mut log, 4, b"five", Ok(5));
+    expect_none(&rt, &board);
+    expect_count(&rt, &mut log, 5);
 }
 
 #[test]
 fn too_much_is_not_kept(rt: HostRuntime) {
     let alloc = rt.alloc();
     let board = new_probe_state();
-    let mut log = log_of_two(alloc, &board, MANY).expect(&rt, "a log");
+    let mut log = open_log(&rt, alloc, &board, MANY);
     board.is_kept.set(false);
     let large = vec![in alloc; 120u8; 1_048_576].expect(&rt, "memory");
     // They are as many bytes as copies may have at the most.
     for count in 2..10u64 {
-        assert!(rt; append_and_sync(alloc, &mut log, count, &large) == Ok(count.saturating_add(1)));
+        let behind = Ok(count.saturating_add(1));
+        expect_append(&rt, alloc, &mut log, count, &large, behind);
     }
-    assert!(rt; offer(&board, compacted_log(alloc, MANY)));
-    assert!(rt; append_and_sync(alloc, &mut log, 10, b"last") == Ok(11));
-    assert!(rt; board.replaced.get().is_none());
-    assert!(rt; board.ended.get().is_some_and(|it| !it.0));
+    expect_offer(&rt, alloc, &board, MANY);
+    expect_append(&rt, alloc, &mut log, 10, b"last", Ok(11));
+    expect_none(&rt, &board);
+    expect_ended(&rt, &board);
 }
 
+/// Checks that a compacted log doesn't take the place where so many calls succeed on its storage.
+fn expect_failing(rt: &impl Abort, alloc: Global, calls: u32) {
+    let board = new_probe_state();
+    let mut log = open_log(rt, alloc, &board, MANY);
+    expect_offer(rt, alloc, &board, calls);
+    expect_append(rt, alloc, &mut log, 2, b"three", Ok(3));
+    expect_none(rt, &board);
+    expect_count(rt, &mut log, 3);
+    expect_ended(rt, &board);
+}
+
+// The compacted log's append fails, or its sync.
 #[test]
 fn compacted_logs_that_fail_are_not_taken(rt: HostRuntime) {
-    let alloc = rt.alloc();
-    // The compacted log's append fails, or its sync.
-    for calls in 0..2 {
-        let board = new_probe_state();
-        let mut log = log_of_two(alloc, &board, MANY).expect(&rt, "a log");
-        assert!(rt; offer(&board, compacted_log(alloc, calls)));
-        assert!(rt; append_and_sync(alloc, &mut log, 2, b"three") == Ok(3));
-        assert!(rt; board.replaced.get().is_none() && read_count(&mut log) == Ok(3));
-        assert!(rt; board.ended.get().is_some_and(|it| !it.0));
-    }
+    expect_failing(&rt, rt.alloc(), 0);
+    expect_failing(&rt, rt.alloc(), 1);
 }
 
 #[test]
 fn replacements_that_fail_end_it(rt: HostRuntime) {
     let alloc = rt.alloc();
     let board = new_probe_state();
-    let mut log = log_of_two(alloc, &board, MANY).expect(&rt, "a log");
-    assert!(rt; offer(&board, compacted_log(alloc, MANY)));
+    let mut log = open_log(&rt, alloc, &board, MANY);
+    expect_offer(&rt, alloc, &board, MANY);
     board.is_failing.set(true);
-    assert!(rt; append_and_sync(alloc, &mut log, 2, b"three") == Err(AppendFault::Unknown));
-    assert!(rt; board.ended.get().is_some_and(|it| !it.0));
+    let unknown = Err(AppendFault::Unknown);
+    expect_append(&rt, alloc, &mut log, 2, b"three", unknown);
+    expect_ended(&rt, &board);
     board.is_failing.set(false);
-    assert!(rt; append_and_sync(alloc, &mut log, 3, b"four") == Err(AppendFault::Unknown));
-    assert!(rt; log.sync().is_err() && read_count(&mut log) == Err(ReadFault::NoAnswer));
+    expect_append(&rt, alloc, &mut log, 3, b"four", unknown);
+    assert!(rt; log.sync().is_err());
+    expect_unread(&rt, &mut log);
 }
 
+/// Checks that a log on whose storage so many calls succeed ends.
+fn expect_end(rt: &impl Abort, alloc: Global, calls: u32) {
+    let board = new_probe_state();
+    let mut log = open_log(rt, alloc, &board, calls);
+    let unknown = Err(AppendFault::Unknown);
+    expect_append(rt, alloc, &mut log, 2, b"three", unknown);
+    assert!(rt; board.ended.get().is_none());
+    assert!(rt; log.sync().is_err());
+}
+
+// The log's append fails, or its sync.
 #[test]
 fn logs_that_fail_end_it(rt: HostRuntime) {
-    let alloc = rt.alloc();
-    // The log's append fails, or its sync.
-    for calls in 0..2 {
-        let board = new_probe_state();
-        let mut log = log_of_two(alloc, &board, calls).expect(&rt, "a log");
-        assert!(rt; append_and_sync(alloc, &mut log, 2, b"three") == Err(AppendFault::Unknown));
-        assert!(rt; board.ended.get().is_none());
-        assert!(rt; log.sync().is_err());
-    }
+    expect_end(&rt, rt.alloc(), 0);
+    expect_end(&rt, rt.alloc(), 1);
 }
 
 #[test]
