@@ -7,7 +7,8 @@ use http_body_util::Full;
 use mds_request::Actor;
 use server_admission::{Arrived, MOST_ANONYMOUS, MOST_OF_CLIENT, MOST_WAITING};
 use server_http::{Admittance, ConnSlot, ConnTable, busy, close_unless_whole};
-use std::alloc::{AllocError, AllocGlobal, Global};
+use std::alloc::{AllocError, Global};
+use std::process::Abort;
 use std::sync::Arc;
 use std::sync::atomic::{AtomicU64, Ordering};
 use std::test::Fail;
@@ -18,75 +19,85 @@ fn enter_anonymous(register: &mut ConnTable, alloc: Global) -> Result<Option<usi
     Ok(register.add_conn(seat))
 }
 
+/// An empty table of connections.
+fn empty_table(rt: &impl Abort, alloc: Global) -> ConnTable {
+    ConnTable::new(alloc, 3).expect(rt, "memory")
+}
+
+/// Gives an anonymous connection a slot, which is there, and returns its key.
+fn enter(rt: &impl Abort, register: &mut ConnTable, alloc: Global) -> usize {
+    let key = enter_anonymous(register, alloc).expect(rt, "memory");
+    key.expect(rt, "a slot")
+}
+
+/// Checks that a request of a client is admitted.
+fn expect_admitted(rt: &impl Abort, register: &mut ConnTable, key: usize, actor: Actor) {
+    assert!(rt; register.admit(key, actor, 0) == Admittance::Admitted(actor));
+}
+
+/// Checks that a request of a client isn't admitted.
+fn expect_busy(rt: &impl Abort, register: &mut ConnTable, key: usize, actor: Actor) {
+    assert!(rt; register.admit(key, actor, 0) == Admittance::Busy);
+}
+
 /// Anonymous connections have as many slots as they may have; one more gets in for the oldest idle one.
 #[test]
-fn anonymous_connections_have_half_of_the_slots(rt: HostRuntime) -> Result<(), Fail> {
-    let alloc = rt.alloc();
-    let mut register = ConnTable::new(alloc, 3)?;
+fn anonymous_connections_have_half_of_the_slots(rt: HostRuntime) {
+    let mut register = empty_table(&rt, rt.alloc());
     for _ in 0..MOST_ANONYMOUS {
-        enter_anonymous(&mut register, alloc)?.ok_or("no seat")?;
+        enter(&rt, &mut register, rt.alloc());
     }
-    let last = enter_anonymous(&mut register, alloc)?.ok_or("no seat for one more")?;
-    let first = register.admit(0, Actor::Nobody, 0);
-    assert!(rt; first == Admittance::Busy);
-    let asked = register.admit(last, Actor::Author, 0);
-    assert!(rt; asked == Admittance::Admitted(Actor::Author));
-    Ok(())
+    let last = enter(&rt, &mut register, rt.alloc());
+    expect_busy(&rt, &mut register, 0, Actor::Nobody);
+    expect_admitted(&rt, &mut register, last, Actor::Author);
 }
 
 /// At most `MOST_WAITING` requests of one client wait. One more may once one of them is answered.
 #[test]
-fn so_many_requests_wait(rt: HostRuntime) -> Result<(), Fail> {
-    let alloc = rt.alloc();
-    let mut register = ConnTable::new(alloc, 3)?;
+fn so_many_requests_wait(rt: HostRuntime) {
+    let mut register = empty_table(&rt, rt.alloc());
     for _ in 0..MOST_WAITING {
-        let key = enter_anonymous(&mut register, alloc)?.ok_or("no seat")?;
-        let asked = register.admit(key, Actor::Nobody, 0);
-        assert!(rt; asked == Admittance::Admitted(Actor::Nobody));
+        let key = enter(&rt, &mut register, rt.alloc());
+        expect_admitted(&rt, &mut register, key, Actor::Nobody);
     }
-    let key = enter_anonymous(&mut register, alloc)?.ok_or("no seat")?;
-    assert!(rt; register.admit(key, Actor::Nobody, 0) == Admittance::Busy);
+    let key = enter(&rt, &mut register, rt.alloc());
+    expect_busy(&rt, &mut register, key, Actor::Nobody);
     register.finish_request(0);
-    let asked = register.admit(key, Actor::Nobody, 0);
-    assert!(rt; asked == Admittance::Admitted(Actor::Nobody));
-    Ok(())
+    expect_admitted(&rt, &mut register, key, Actor::Nobody);
 }
 
 /// A client has at most `MOST_OF_CLIENT` connections where none of them is idle.
 #[test]
-fn a_client_has_so_many_slots(rt: HostRuntime) -> Result<(), Fail> {
-    let alloc = rt.alloc();
-    let mut register = ConnTable::new(alloc, 3)?;
+fn a_client_has_so_many_slots(rt: HostRuntime) {
+    let mut register = empty_table(&rt, rt.alloc());
     let alfa = Actor::Operator(0);
     for _ in 0..MOST_OF_CLIENT {
-        let key = enter_anonymous(&mut register, alloc)?.ok_or("no seat")?;
-        assert!(rt; register.admit(key, alfa, 0) == Admittance::Admitted(alfa));
+        let key = enter(&rt, &mut register, rt.alloc());
+        expect_admitted(&rt, &mut register, key, alfa);
     }
-    let key = enter_anonymous(&mut register, alloc)?.ok_or("no seat")?;
-    assert!(rt; register.admit(key, alfa, 0) == Admittance::Busy);
+    let key = enter(&rt, &mut register, rt.alloc());
+    expect_busy(&rt, &mut register, key, alfa);
     register.finish_request(0);
     register.set_idle(0);
-    assert!(rt; register.admit(key, alfa, 0) == Admittance::Admitted(alfa));
-    Ok(())
+    expect_admitted(&rt, &mut register, key, alfa);
 }
 
 /// A closed table of connections lets in no connection and no request.
 #[test]
-fn a_closed_table_lets_nothing_in(rt: HostRuntime) -> Result<(), Fail> {
-    let alloc = rt.alloc();
-    let mut register = ConnTable::new(alloc, 3)?;
-    let key = enter_anonymous(&mut register, alloc)?.ok_or("no seat")?;
+fn a_closed_table_lets_nothing_in(rt: HostRuntime) {
+    let mut register = empty_table(&rt, rt.alloc());
+    let key = enter(&rt, &mut register, rt.alloc());
     register.close();
-    assert!(rt; register.admit(key, Actor::Author, 0) == Admittance::Busy);
-    assert!(rt; enter_anonymous(&mut register, alloc)?.is_none());
-    Ok(())
+    expect_busy(&rt, &mut register, key, Actor::Author);
+    let none = enter_anonymous(&mut register, rt.alloc()).expect(&rt, "memory");
+    assert!(rt; none.is_none());
 }
 
 /// Each connection is notified that the server shuts down: that it is to close, and that a response is its last one.
 #[test]
 fn each_connection_is_notified(rt: HostRuntime) -> Result<(), Fail> {
     let alloc = rt.alloc();
-    let mut register = ConnTable::new(alloc, 3)?;
+    let mut register = empty_table(&rt, alloc);
     let seat = Arc::new(alloc, ConnSlot::new(alloc)?)?;
     let (told, last) = (seat.close_notice()?, seat.shutdown_notice()?);
     register.add_conn(seat).ok_or("no seat")?;
@@ -98,40 +109,41 @@ fn each_connection_is_notified(rt: HostRuntime) -> Result<(), Fail> {
 
 /// The response of a busy server is 503, and says that the connection closes.
 #[test]
-fn busy_says_so(rt: HostRuntime) -> Result<(), Fail> {
-    let response = busy(rt.alloc())?;
+fn busy_says_so(rt: HostRuntime) {
+    let response = busy(rt.alloc()).expect(&rt, "memory");
     assert!(rt; response.status() == StatusCode::SERVICE_UNAVAILABLE);
-    let close = response.headers().get(CONNECTION).ok_or("no header")?;
+    let close = response.headers().get(CONNECTION).expect(&rt, "a field");
     assert!(rt; close.as_bytes() == b"close".as_slice());
-    Ok(())
+}
+
+/// Checks whether an empty response to a request whose body arrived so says that the connection closes.
+fn expect_last(rt: &impl Abort, alloc: Global, arrived: &Arrived, wanted: bool) {
+    let plain = Response::new(alloc, Full::new(Bytes::new()));
+    let told = close_unless_whole(plain, arrived).expect(rt, "memory");
+    assert!(rt; told.headers().get(CONNECTION).is_some() == wanted);
 }
 
 /// After a body that was too long the response says that the connection closes; after a whole one it doesn't.
 #[test]
-fn a_last_reply_says_so(rt: HostRuntime) -> Result<(), Fail> {
-    let alloc = rt.alloc();
-    let long = Response::new(alloc, Full::new(Bytes::new()));
-    let long = close_unless_whole(long, &Arrived::TooLong)?;
-    assert!(rt; long.headers().get(CONNECTION).is_some());
-    let whole = Response::new(alloc, Full::new(Bytes::new()));
-    let whole = close_unless_whole(whole, &Arrived::Whole(Bytes::new()))?;
-    assert!(rt; whole.headers().get(CONNECTION).is_none());
-    Ok(())
+fn a_last_reply_says_so(rt: HostRuntime) {
+    expect_last(&rt, rt.alloc(), &Arrived::TooLong, true);
+    expect_last(&rt, rt.alloc(), &Arrived::Whole(Bytes::new()), false);
 }
 
 /// A counter holds the number of open connections, from the moment it is passed on.
 #[test]
-fn counts_open_connections(rt: HostRuntime) -> Result<(), Fail> {
+fn counts_open_connections(rt: HostRuntime) {
     let alloc = rt.alloc();
-    let mut register = ConnTable::new(alloc, 3)?;
-    let first = enter_anonymous(&mut register, alloc)?.ok_or("no seat")?;
-    let open = Arc::new(alloc, AtomicU64::new(7))?;
-    register.count_at(Arc::try_clone(&open)?);
+    let mut register = empty_table(&rt, alloc);
+    let first = enter(&rt, &mut register, alloc);
+    let open = Arc::new(alloc, AtomicU64::new(7))
+        .ok()
+        .expect(&rt, "memory");
+    register.count_at(Arc::try_clone(&open).expect(&rt, "memory"));
     assert!(rt; open.load(Ordering::SeqCst) == 1);
-    enter_anonymous(&mut register, alloc)?.ok_or("no second seat")?;
+    enter(&rt, &mut register, alloc);
     assert!(rt; open.load(Ordering::SeqCst) == 2);
     register.remove_conn(first);
     register.remove_conn(first);
     assert!(rt; open.load(Ordering::SeqCst) == 1);
-    Ok(())
 }

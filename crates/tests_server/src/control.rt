@@ -11,6 +11,7 @@ use std::io::{self, Read, Write};
 use std::net::{SocketAddr, TcpStream};
 use std::os::unix::fs::PermissionsExt;
 use std::os::unix::net::{UnixListener, UnixStream};
+use std::process::Abort;
 use std::sync::Arc;
 use std::sync::atomic::{AtomicBool, AtomicU64, Ordering};
 use std::test::Fail;
@@ -131,13 +132,24 @@ const HEADS: &[(&str, ControlAnswer)] = &[
     ),
 ];
 
+/// Checks what is replied to a head.
+fn expect_head(rt: &impl Abort, alloc: Global, lines: &str, wanted: ControlHead) {
+    let found = heading_in(alloc, lines).expect(rt, "memory");
+    assert!(rt; found == wanted, "{lines}");
+}
+
+/// Checks what is replied to a head at a Unix socket.
+fn expect_anywhere(rt: &impl Abort, lines: &str, wanted: ControlHead) {
+    let found = control_head_of(lines.as_bytes(), &Hosts::Any, true);
+    assert!(rt; found == wanted, "{lines}");
+}
+
 #[test]
-fn heads_are_answered(rt: HostRuntime) -> Result<(), Fail> {
+fn heads_are_answered(rt: HostRuntime) {
     for &(lines, wanted) in HEADS {
-        let found = heading_in(rt.alloc(), lines)?;
-        assert!(rt; found == ControlHead::Whole(reply(wanted)), "{lines}");
+        let wanted = ControlHead::Whole(reply(wanted));
+        expect_head(&rt, rt.alloc(), lines, wanted);
     }
-    Ok(())
 }
 
 /// Fields that a browser sends for a page.
@@ -151,24 +163,19 @@ const FIELDS_OF_A_PAGE: &[&str] = &[
 
 /// A page is refused whatever the hosts.
 #[test]
-fn refuses_a_page(rt: HostRuntime) -> Result<(), Fail> {
+fn refuses_a_page(rt: HostRuntime) {
+    let wanted = ControlHead::Whole(reply(ControlAnswer::Forbidden));
     for lines in FIELDS_OF_A_PAGE {
-        let found = heading_in(rt.alloc(), lines)?;
-        assert!(rt;
-            found == ControlHead::Whole(reply(ControlAnswer::Forbidden)),
-            "{lines}"
-        );
-        let anywhere = control_head_of(lines.as_bytes(), &Hosts::Any, true);
-        assert!(rt; anywhere == found, "{lines}");
+        expect_head(&rt, rt.alloc(), lines, wanted);
+        expect_anywhere(&rt, lines, wanted);
     }
-    Ok(())
 }
 
 /// At a Unix socket no host is wanted.
 #[test]
 fn wants_no_host_where_any_is_right(rt: HostRuntime) {
-    let anywhere = control_head_of(b"GET /healthz HTTP/1.1\r\n\r\n", &Hosts::Any, true);
-    assert!(rt; anywhere == ControlHead::Whole(reply(ControlAnswer::Healthy)));
+    let wanted = ControlHead::Whole(reply(ControlAnswer::Healthy));
+    expect_anywhere(&rt, "GET /healthz HTTP/1.1\r\n\r\n", wanted);
 }
 
 /// Heads of HEAD, and what is answered to each.
@@ -180,26 +187,23 @@ const BARE_HEADS: &[(&str, ControlAnswer)] = &[
 
 /// HEAD is answered as GET, without a body (RFC 9110, section 9.3.2).
 #[test]
-fn sends_no_body_to_a_head(rt: HostRuntime) -> Result<(), Fail> {
+fn sends_no_body_to_a_head(rt: HostRuntime) {
     for &(lines, answer) in BARE_HEADS {
-        let found = heading_in(rt.alloc(), lines)?;
         let wanted = ControlReply {
             answer,
             has_body: false,
         };
-        assert!(rt; found == ControlHead::Whole(wanted), "{lines}");
-        assert!(rt; reply_due(found, 26, false) == Some(wanted));
+        let whole = ControlHead::Whole(wanted);
+        expect_head(&rt, rt.alloc(), lines, whole);
+        assert!(rt; reply_due(whole, 26, false) == Some(wanted));
     }
-    Ok(())
 }
 
 #[test]
-fn heads_that_are_not_whole(rt: HostRuntime) -> Result<(), Fail> {
-    let part = heading_in(rt.alloc(), "GET /healthz HTTP/1.1\nhost: localhost\n")?;
-    assert!(rt; part == ControlHead::Partial);
-    let broken = heading_in(rt.alloc(), "GET\r\n\r\n")?;
-    assert!(rt; broken == ControlHead::Broken);
-    Ok(())
+fn heads_that_are_not_whole(rt: HostRuntime) {
+    let part = "GET /healthz HTTP/1.1\nhost: localhost\n";
+    expect_head(&rt, rt.alloc(), part, ControlHead::Partial);
+    expect_head(&rt, rt.alloc(), "GET\r\n\r\n", ControlHead::Broken);
 }
 
 /// Heads that aren't waited for, the bytes of each, and whether it comes no further.
@@ -401,10 +405,23 @@ fn listens_at_a_socket(rt: HostRuntime) -> Result<(), Fail> {
     Ok(())
 }
 
-/// Whether the text of the metrics has this line.
-fn has_line(alloc: Global, counters: &Counters, line: &str) -> Result<bool, Fail> {
-    let text = metrics(alloc, &counters.lines(alloc)?)?;
-    Ok(text.lines().any(|found| found == line))
+/// The text of the metrics.
+fn metrics_text(rt: &impl Abort, alloc: Global, counters: &Counters) -> String {
+    let lines = counters.lines(alloc).expect(rt, "memory");
+    metrics(alloc, &lines).expect(rt, "memory")
+}
+
+/// Whether a text has this line.
+fn has_line(text: &str, line: &str) -> bool {
+    text.lines().any(|found| found == line)
+}
+
+/// Checks that the metrics have these lines.
+fn expect_lines(rt: &impl Abort, alloc: Global, counters: &Counters, lines: &[&str]) {
+    let text = metrics_text(rt, alloc, counters);
+    for line in lines {
+        assert!(rt; has_line(text.as_str(), line), "{line}");
+    }
 }
 
 /// The metrics of a server that has counted nothing.
@@ -449,11 +466,10 @@ ruffletuff_answer_milliseconds_count 0\n\
 ";
 
 #[test]
-fn tells_each_line(rt: HostRuntime) -> Result<(), Fail> {
-    let counters = zero_counters(rt.alloc())?;
-    let text = metrics(rt.alloc(), &counters.lines(rt.alloc())?)?;
+fn tells_each_line(rt: HostRuntime) {
+    let counters = zero_counters(rt.alloc()).expect(&rt, "memory");
+    let text = metrics_text(&rt, rt.alloc(), &counters);
     assert!(rt; text.as_str() == NOTHING_COUNTED);
-    Ok(())
 }
 
 /// Lines of the metrics behind a publication that failed, a question and a change that was refused.
@@ -475,9 +491,8 @@ const COUNTED: &[&str] = &[
 ];
 
 #[test]
-fn counts_in_its_rows(rt: HostRuntime) -> Result<(), Fail> {
-    let alloc = rt.alloc();
-    let counters = zero_counters(alloc)?;
+fn counts_in_its_rows(rt: HostRuntime) {
+    let counters = zero_counters(rt.alloc()).expect(&rt, "memory");
     counters.count_answer(CallKind::Publish, 503, 20);
     counters.count_answer(CallKind::Read, 200, 2000);
     counters.count_answer(CallKind::Change, 404, 2000);
@@ -485,10 +500,7 @@ fn counts_in_its_rows(rt: HostRuntime) -> Result<(), Fail> {
     counters.set(Figure::Revision, 5);
     counters.add(Figure::Pending, 2);
     counters.subtract(Figure::Pending, 1);
-    for line in COUNTED {
-        assert!(rt; has_line(alloc, &counters, line)?, "{line}");
-    }
-    Ok(())
+    expect_lines(&rt, rt.alloc(), &counters, COUNTED);
 }
 
 /// Lines of the metrics of a server with three connections and two operators.
@@ -508,17 +520,23 @@ fn counters_of_two(alloc: Global, connections: Arc<AtomicU64>) -> Result<Counter
     Counters::new(alloc, connections, fleets)
 }
 
-#[test]
-fn tells_connections_and_vehicles(rt: HostRuntime) -> Result<(), Fail> {
-    let alloc = rt.alloc();
-    let connections = Arc::new(alloc, AtomicU64::new(0))?;
-    let counters = counters_of_two(alloc, Arc::try_clone(&connections)?)?;
-    connections.store(3, Ordering::SeqCst);
+/// Sets how many vehicles the operators have.
+fn set_vehicles(rt: &impl Abort, counters: &Counters) {
     for (fleet, count) in counters.fleets().iter().zip([7, 250_000]) {
-        fleet.vehicles()?.store(count, Ordering::SeqCst);
+        let vehicles = fleet.vehicles().expect(rt, "a count");
+        vehicles.store(count, Ordering::SeqCst);
     }
-    for line in OF_TWO_FLEETS {
-        assert!(rt; has_line(alloc, &counters, line)?, "{line}");
-    }
-    Ok(())
+}
+
+#[test]
+fn tells_connections_and_vehicles(rt: HostRuntime) {
+    let alloc = rt.alloc();
+    let connections = Arc::new(alloc, AtomicU64::new(0))
+        .ok()
+        .expect(&rt, "memory");
+    let shared = Arc::try_clone(&connections).expect(&rt, "memory");
+    let counters = counters_of_two(alloc, shared).expect(&rt, "memory");
+    connections.store(3, Ordering::SeqCst);
+    set_vehicles(&rt, &counters);
+    expect_lines(&rt, alloc, &counters, OF_TWO_FLEETS);
 }

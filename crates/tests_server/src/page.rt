@@ -3,6 +3,7 @@ use http::header::IF_NONE_MATCH;
 use http::{HeaderMap, HeaderValue};
 use server_page::{File, Page, is_named, tag_of};
 use std::alloc::Global;
+use std::process::Abort;
 
 /// The SHA-256 of `abc` in quotes (FIPS 180-4, its first example).
 const ABC: &[u8] = b"\"ba7816bf8f01cfea414140de5dae2223b00361a396177a9cb410ff61f20015ad\"";
@@ -37,18 +38,39 @@ fn status_at(
     Some(told.status().as_u16())
 }
 
+/// Checks the status of the response to a method at a path, if a file is there.
+fn expect_status(
+    rt: &impl Abort,
+    page: &Page,
+    alloc: Global,
+    asked: (&str, &str),
+    fields: &HeaderMap,
+    wanted: Option<u16>,
+) {
+    let (method, path) = (asked.0.as_bytes(), asked.1.as_bytes());
+    assert!(rt; status_at(page, alloc, method, path, fields) == wanted);
+}
+
+/// The fields of a request that names any tag.
+fn any_tag(rt: &impl Abort, alloc: Global) -> HeaderMap {
+    let mut fields = HeaderMap::new(alloc);
+    let star = HeaderValue::from_static("*");
+    let _ = fields.insert(IF_NONE_MATCH, star).expect(rt, "memory");
+    fields
+}
+
 #[test]
 fn the_page_is_read(rt: HostRuntime) {
     let alloc = rt.alloc();
     let page = Page::new(alloc, b"{}").expect(&rt, "memory");
     let none = HeaderMap::new(alloc);
-    assert!(rt; status_at(&page, alloc, b"GET", b"/", &none) == Some(200));
-    assert!(rt; status_at(&page, alloc, b"HEAD", b"/page.css", &none) == Some(200));
-    assert!(rt; status_at(&page, alloc, b"POST", b"/zone.js", &none) == Some(405));
-    assert!(rt; status_at(&page, alloc, b"GET", b"/policies", &none).is_none());
-    assert!(rt; status_at(&page, alloc, b"GET", b"/index.html", &none).is_none());
-    let mut any = HeaderMap::new(alloc);
-    let star = HeaderValue::from_static("*");
-    let _ = any.insert(IF_NONE_MATCH, star).expect(&rt, "memory");
-    assert!(rt; status_at(&page, alloc, b"GET", b"/", &any) == Some(304));
+    expect_status(&rt, &page, alloc, ("GET", "/"), &none, Some(200));
+    let style = ("HEAD", "/page.css");
+    expect_status(&rt, &page, alloc, style, &none, Some(200));
+    let zone = ("POST", "/zone.js");
+    expect_status(&rt, &page, alloc, zone, &none, Some(405));
+    expect_status(&rt, &page, alloc, ("GET", "/policies"), &none, None);
+    expect_status(&rt, &page, alloc, ("GET", "/index.html"), &none, None);
+    let any = any_tag(&rt, alloc);
+    expect_status(&rt, &page, alloc, ("GET", "/"), &any, Some(304));
 }

@@ -3,13 +3,16 @@ ghost use Rattle.std.specs.Prelude.{IfSome};
 ghost use Rattle.futures.specs.Task.{Keeps};
 ghost use Rattle.server_http.specs.Turn.{IsWaiting};
 
+use crate::runtime::TestRuntime;
 use futures::Future;
 use futures::executor::block_on;
 use futures::task::{Context, Poll};
 use mds_request::{Actor, Config};
 use server_admission::Cost;
 use server_http::{Permits, Queues, Turn};
-use std::test::Fail;
+use std::alloc::{AllocGlobal, Global};
+use std::process::Abort;
+use std::random::RandomSource;
 
 const CONFIGURATION: &[u8] =
     br#"{"author":"city","operators":[{"id":"00000000-0000-4000-8000-0000000000a1","limit":2,"token":"alfa"}],"zone":"Z"}"#;
@@ -124,44 +127,42 @@ impl Future for QueueTest<'_> {
     }
 }
 
+/// The queues of a city with one operator.
+fn queues_of_one(rt: &impl Abort, alloc: Global) -> Queues {
+    let config = Config::read(alloc, CONFIGURATION).expect(rt, "a configuration");
+    Queues::new(alloc, &config).expect(rt, "memory")
+}
+
+/// Checks what is tried of the answers that wait.
+fn expect_case<R: TestRuntime + RandomSource + AllocGlobal>(rt: &R, scene: QueueCase) {
+    let queues = &queues_of_one(rt, rt.alloc());
+    assert!(rt; block_on(rt, QueueTest { queues, scene }).expect(rt, "memory"));
+}
+
 /// Short answers to one client run concurrently.
 #[test]
-fn short_answers_run_concurrently(rt: HostRuntime) -> Result<(), Fail> {
-    let alloc = rt.alloc();
-    let queues = &Queues::new(alloc, &Config::read(alloc, CONFIGURATION)?)?;
-    let scene = QueueCase::Short;
-    assert!(rt; block_on(&rt, QueueTest { queues, scene })?);
-    Ok(())
+fn short_answers_run_concurrently(rt: HostRuntime) {
+    expect_case(&rt, QueueCase::Short);
 }
 
 /// A short answer waits for one long answer at most, however many wait.
 #[test]
-fn a_short_answer_waits_for_one_long(rt: HostRuntime) -> Result<(), Fail> {
-    let alloc = rt.alloc();
-    let queues = &Queues::new(alloc, &Config::read(alloc, CONFIGURATION)?)?;
-    let scene = QueueCase::Long;
-    assert!(rt; block_on(&rt, QueueTest { queues, scene })?);
-    Ok(())
+fn a_short_answer_waits_for_one_long(rt: HostRuntime) {
+    expect_case(&rt, QueueCase::Long);
 }
 
 /// A long answer to one client keeps no other client waiting.
 #[test]
-fn clients_have_queues_of_their_own(rt: HostRuntime) -> Result<(), Fail> {
-    let alloc = rt.alloc();
-    let queues = &Queues::new(alloc, &Config::read(alloc, CONFIGURATION)?)?;
-    let scene = QueueCase::Apart;
-    assert!(rt; block_on(&rt, QueueTest { queues, scene })?);
-    Ok(())
+fn clients_have_queues_of_their_own(rt: HostRuntime) {
+    expect_case(&rt, QueueCase::Apart);
 }
 
 /// An answer that takes nothing of a queue has no turn, nor has an answer to an anonymous client.
 #[test]
-fn what_is_free_takes_no_turn(rt: HostRuntime) -> Result<(), Fail> {
-    let alloc = rt.alloc();
-    let queues = Queues::new(alloc, &Config::read(alloc, CONFIGURATION)?)?;
+fn what_is_free_takes_no_turn(rt: HostRuntime) {
+    let queues = queues_of_one(&rt, rt.alloc());
     assert!(rt; queues.turn(ALFA, Cost::Free).is_none());
     assert!(rt; queues.turn(Actor::Author, Cost::Free).is_none());
     assert!(rt; queues.turn(Actor::Nobody, Cost::Exclusive).is_none());
     assert!(rt; queues.turn(Actor::Author, Cost::Shared).is_some());
-    Ok(())
 }

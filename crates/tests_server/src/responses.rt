@@ -7,6 +7,7 @@ use http::{HeaderName, HeaderValue, Response, StatusCode};
 use http_body_util::Full;
 use server_responses::{HintedReply, Methods, RefusalHint, methods_of, with_refusal_field};
 use std::alloc::Global;
+use std::process::Abort;
 
 /// An empty response with this status.
 fn empty(alloc: Global, status: StatusCode) -> Response<Full<Bytes>> {
@@ -23,22 +24,28 @@ fn has(response: &Response<Full<Bytes>>, name: HeaderName, value: &[u8]) -> bool
     }
 }
 
+/// Checks the methods of a path.
+fn expect_methods(rt: &impl Abort, path: &str, wanted: Option<Methods>) {
+    assert!(rt; methods_of(path) == wanted);
+}
+
 #[test]
 fn a_path_has_its_methods(rt: HostRuntime) {
-    assert!(rt; methods_of("/policies") == Some(Methods::Get));
-    assert!(rt; methods_of("/publish") == Some(Methods::Post));
-    assert!(rt; methods_of("/geographies/x") == Some(Methods::Get));
-    assert!(rt; methods_of("/fleet/events") == Some(Methods::Post));
-    assert!(rt; methods_of("/fleet/vehicles/1") == Some(Methods::Delete));
-    assert!(rt; methods_of("/drafts/policies/1") == Some(Methods::PutGetDelete));
-    assert!(rt; methods_of("/app/fleet/events") == Some(Methods::Post));
-    assert!(rt; methods_of("/app/whoami") == Some(Methods::Get));
-    assert!(rt; methods_of("/policies/").is_none());
-    assert!(rt; methods_of("//policies").is_none());
-    assert!(rt; methods_of("/policies/1/2").is_none());
-    assert!(rt; methods_of("/drafts/policies/1/2").is_none());
-    assert!(rt; methods_of("policies").is_none());
-    assert!(rt; methods_of("").is_none());
+    expect_methods(&rt, "/policies", Some(Methods::Get));
+    expect_methods(&rt, "/publish", Some(Methods::Post));
+    expect_methods(&rt, "/geographies/x", Some(Methods::Get));
+    expect_methods(&rt, "/fleet/events", Some(Methods::Post));
+    expect_methods(&rt, "/fleet/vehicles/1", Some(Methods::Delete));
+    let all = Some(Methods::PutGetDelete);
+    expect_methods(&rt, "/drafts/policies/1", all);
+    expect_methods(&rt, "/app/fleet/events", Some(Methods::Post));
+    expect_methods(&rt, "/app/whoami", Some(Methods::Get));
+    expect_methods(&rt, "/policies/", None);
+    expect_methods(&rt, "//policies", None);
+    expect_methods(&rt, "/policies/1/2", None);
+    expect_methods(&rt, "/drafts/policies/1/2", None);
+    expect_methods(&rt, "policies", None);
+    expect_methods(&rt, "", None);
 }
 
 #[test]
@@ -47,11 +54,21 @@ fn methods_are_listed(rt: HostRuntime) {
     assert!(rt; Methods::PutGetDelete.text() == "PUT, GET, DELETE");
 }
 
+/// The response behind a refusal with this status.
+fn refusal(
+    rt: &impl Abort,
+    alloc: Global,
+    status: StatusCode,
+    hint: RefusalHint,
+) -> Response<Full<Bytes>> {
+    with_refusal_field(empty(alloc, status), hint).expect(rt, "memory")
+}
+
 /// RFC 9110, sections 11.6.1 and 15.5.2.
 #[test]
 fn a_401_names_the_scheme(rt: HostRuntime) {
-    let plain = empty(rt.alloc(), StatusCode::UNAUTHORIZED);
-    let told = with_refusal_field(plain, RefusalHint::without_methods()).expect(&rt, "memory");
+    let hint = RefusalHint::without_methods();
+    let told = refusal(&rt, rt.alloc(), StatusCode::UNAUTHORIZED, hint);
     assert!(rt; told.status().as_u16() == 401);
     assert!(rt; has(&told, WWW_AUTHENTICATE, b"Bearer"));
     assert!(rt; !told.headers().contains_key(ALLOW));
@@ -60,21 +77,27 @@ fn a_401_names_the_scheme(rt: HostRuntime) {
 /// RFC 9110, sections 10.2.1 and 15.5.6.
 #[test]
 fn a_405_names_the_methods(rt: HostRuntime) {
-    let plain = empty(rt.alloc(), StatusCode::METHOD_NOT_ALLOWED);
-    let told = with_refusal_field(plain, RefusalHint::of("/fleet/events")).expect(&rt, "memory");
+    let hint = RefusalHint::of("/fleet/events");
+    let told = refusal(&rt, rt.alloc(), StatusCode::METHOD_NOT_ALLOWED, hint);
     assert!(rt; told.status().as_u16() == 405);
     assert!(rt; has(&told, ALLOW, b"POST"));
     assert!(rt; !told.headers().contains_key(WWW_AUTHENTICATE));
 }
 
-#[test]
-fn a_field_is_kept(rt: HostRuntime) {
-    let mut plain = empty(rt.alloc(), StatusCode::METHOD_NOT_ALLOWED);
+/// An empty response with this status, and with the methods GET and HEAD.
+fn with_methods(rt: &impl Abort, alloc: Global, status: StatusCode) -> Response<Full<Bytes>> {
+    let mut plain = empty(alloc, status);
     let value = HeaderValue::from_static("GET, HEAD");
     let _ = plain
         .headers_mut()
         .insert(ALLOW, value)
-        .expect(&rt, "memory");
+        .expect(rt, "memory");
+    plain
+}
+
+#[test]
+fn a_field_is_kept(rt: HostRuntime) {
+    let plain = with_methods(&rt, rt.alloc(), StatusCode::METHOD_NOT_ALLOWED);
     let told = with_refusal_field(plain, RefusalHint::of("/publish")).expect(&rt, "memory");
     assert!(rt; has(&told, ALLOW, b"GET, HEAD"));
 }
@@ -88,16 +111,19 @@ fn a_reply_is_guided(rt: HostRuntime) {
     assert!(rt; has(&told, WWW_AUTHENTICATE, b"Bearer"));
 }
 
+/// Checks that the response behind this status has no fields.
+fn expect_bare(rt: &impl Abort, alloc: Global, status: StatusCode, hint: RefusalHint) {
+    assert!(rt; refusal(rt, alloc, status, hint).headers().is_empty());
+}
+
 #[test]
 fn another_status_is_left(rt: HostRuntime) {
-    let plain = empty(rt.alloc(), StatusCode::OK);
-    let told = with_refusal_field(plain, RefusalHint::of("/policies")).expect(&rt, "memory");
-    assert!(rt; told.headers().is_empty());
+    let hint = RefusalHint::of("/policies");
+    expect_bare(&rt, rt.alloc(), StatusCode::OK, hint);
 }
 
 #[test]
 fn a_405_without_methods_names_none(rt: HostRuntime) {
-    let plain = empty(rt.alloc(), StatusCode::METHOD_NOT_ALLOWED);
-    let told = with_refusal_field(plain, RefusalHint::without_methods()).expect(&rt, "memory");
-    assert!(rt; told.headers().is_empty());
+    let hint = RefusalHint::without_methods();
+    expect_bare(&rt, rt.alloc(), StatusCode::METHOD_NOT_ALLOWED, hint);
 }
