@@ -22,7 +22,8 @@ HEAD = ["| Crate | What it says it is | Stands on |", "|---|---|---|"]
 LAYERS = (
     ("Core", "`mds_`: the protocol and its state, in memory", """
         mds_text mds_json mds_geometry mds_geography mds_policy mds_match mds_verdict mds_bitmaps mds_fleet mds_parallel mds_catalog
-        mds_drafts mds_snapshot mds_request mds_config_error mds_machine mds_world mds_desk mds_script"""),
+        mds_drafts mds_snapshot mds_append_list mds_request mds_config_error mds_machine mds_world mds_desk
+        mds_script"""),
     ("Journal", "`journal_`: what a disk keeps", """
         journal_laws journal_file journal_swap journal_register journal_etcd journal_remote journal_entry journal_commit
         journal_recovery journal_folder journal_samples journal_compaction"""),

@@ -1,6 +1,7 @@
 //! Serves an open city: one thread writes its journal, others answer.
-ghost use Rattle.std.specs.Prelude.{◌≡◌, ℕ, List, IfOk, Ok};
+ghost use Rattle.std.specs.Prelude.{◌≡◌, ℕ, List, IfOk, Ok, map};
 ghost use Rattle.ruffletuff.specs.Ends.{outcome_of};
+ghost use Rattle.ruffletuff.specs.Resumed.{AreResumed};
 
 use crate::admin::AdminState;
 use crate::city_journals::CityJournals;
@@ -105,7 +106,8 @@ where
     ended
 }
 
-/// Persists what a hall accepts in a log that continues this history, and serves the hall. N names the history.
+/// Persists what a hall accepts in a log that continues this history, and serves the hall, whose desks are those that
+/// were started from the log. N names the history.
 ///
 /// # Errors
 ///
@@ -127,6 +129,8 @@ where
     R: ServerHost,
     requires book { history.seen.book ≡ N.book }
     requires listed { (first : List (List ℕ)) × L.may_be log first }
+    requires resumed { AreResumed (L.may_be log) K.configuration stage.dropped.now
+        (map (λ desk. desk.opening.front.seen.log) hall.desks.items) }
     requires space { S.aside space ≡ 0 }
 {
     let alloc = rt.alloc();

@@ -1,5 +1,5 @@
 -- The record of a turn.
-use Rattle.std.proofs.Common.{◌≡◌, ℕ, Bool, true, false, List, Option, Some, None, IfSome, IfNone, IsSome, Result, Ok, Err, IfOk, option_map, refl, sym, subst}
+use Rattle.std.proofs.Common.{◌≡◌, ℕ, Bool, true, false, List, [], ◌∷◌, ◌++◌, Option, Some, None, IfSome, IfNone, IsSome, Result, Ok, Err, IfOk, option_map, refl, sym, subst}
 use Rattle.std.specs.Prelude.{◌&&◌, ◌==◌}
 use Rattle.std.proofs.lemmas.Bool.{eqb-true}
 use Rattle.journal_commit.specs.declared.backlog.Reservation.{Reservation}
@@ -9,7 +9,11 @@ use Rattle.mds_request.specs.Request.{Request}
 use Rattle.mds_request.specs.Reply.{Reply}
 use Rattle.mds_request.specs.declared.config.Actor.{Actor}
 use Rattle.journal_laws.specs.Persisted.{is_kept, may_change}
+use Rattle.std.proofs.Math.Logic.{∥∥₁_map}
+use Rattle.mds_desk.specs.Desk.{DeskState}
 use Rattle.server_state.specs.Respond.{TurnGives}
+use Rattle.server_state.specs.TurnItem.{TurnItem, Answered}
+use Rattle.server_state.specs.TurnList.{AreTurnsOf, IsToldTurn}
 use Rattle.server_durable.specs.DurableResponse.{IsRecordedTurn}
 use Rattle.server_durable.specs.Records.{HasRecord, IsAmong, IsReserved, IsSettled, IsTitled, place_of}
 use Rattle.server_durable.specs.declared.records.CallReservation.{CallReservation}
@@ -88,3 +92,11 @@ pub ahead_alike : {A B E F S N : Type 0} (failed : F → E) (shown : Option S) (
 ahead_alike failed None noted outcome other same ahead = tt
 ahead_alike failed (Some s) None outcome other same ahead = (ahead.0, same (failed ahead.0) ahead.1)
 ahead_alike failed (Some s) (Some n) outcome other same ahead = tt
+
+-- a reply is told of the turn that is the last of its desk's list
+pub told_last : (configuration : Configuration) (place at : ℕ) (items all : List TurnItem) (request : Request) (reply : Reply) (d : DeskState)
+    → at ≡ place → ∥ AreTurnsOf configuration at all d ∥₁ → all ≡ items ++ Answered request reply ∷ []
+    → ∥ IsToldTurn configuration place request reply all ∥₁
+told_last configuration place at items all request reply d same are is =
+    subst (λ (p : ℕ). ∥ IsToldTurn configuration p request reply all ∥₁) same
+    (∥∥₁_map are (λ turns. record { before = items; after = d; last = is; turns = turns }))

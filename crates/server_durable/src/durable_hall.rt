@@ -1,5 +1,5 @@
 //! A hall whose accepted changes are persisted.
-ghost use Rattle.std.specs.Prelude.{◌≡◌, IfErr, IfOk, Ok, Err};
+ghost use Rattle.std.specs.Prelude.{◌≡◌, ◌++◌, ◌∷◌, [], IfErr, IfOk, Ok, Err};
 ghost use Rattle.mds_request.specs.Call.{call_of};
 ghost use Rattle.mds_request.specs.Configuration.{configuration};
 ghost use Rattle.mds_request.specs.Reply.{refused};
@@ -7,6 +7,8 @@ ghost use Rattle.mds_request.specs.declared.call.Call.TheVariants.{Author as ByA
 ghost use Rattle.mds_request.specs.declared.config.Actor.TheVariants.{Author, Operator};
 ghost use Rattle.server_state.specs.WholeRequest.{request_heard};
 ghost use Rattle.server_state.specs.Response.{Says};
+ghost use Rattle.server_state.specs.TurnItem.{Answered};
+ghost use Rattle.server_state.specs.TurnList.{IsToldTurn};
 ghost use Rattle.server_durable.specs.DurableResponse.{IsRecordedTurn};
 ghost use Rattle.server_durable.specs.Records.{IsReserved, IsTitled};
 ghost use Rattle.server_durable.specs.Refusals.{SaysUnheldFor, refusal_for};
@@ -31,7 +33,7 @@ use mds_desk::{OpenGate, SharedReply};
 use mds_request::{AuthorCall, Call, Code, Config, OperatorCall};
 use mds_verdict::Evaluator;
 use server_app::OperatorNames;
-use server_state::{Hall, HallName, WholeRequest, response};
+use server_state::{DeskTurns, Hall, HallDesk, HallName, WholeRequest, response};
 use std::alloc::{AllocError, Global};
 use std::marker::Brand;
 use std::sync::{Arc, Wait};
@@ -54,6 +56,15 @@ pub(crate) struct AnswerAtPosition<N: LogName, L: Log> {
     pub answer: SharedReply,
     /// The log position that has to be synced before the answer is sent.
     pub stamp: LogPosition<N, L>,
+}
+
+/// A turn of an operator's desk whose answer may be sent, and all turns of that desk up to it.
+#[derive(Drop)]
+pub(crate) struct RecordedTurn<K: HallName, N: LogName, L: Log> {
+    /// The answer, and the log position of all that it shows.
+    pub answered: AnswerAtPosition<N, L>,
+    /// The desk's turns since it was put behind its lock. This one is the last.
+    pub turns: DeskTurns<K>,
 }
 
 impl<K: HallName, N: LogName, L: Log, S: Space> DurableHall<K, N, L, S> {
@@ -220,8 +231,49 @@ impl<K: HallName, N: LogName, L: Log, S: Space> DurableHall<K, N, L, S> {
         }
     }
 
+    /// One turn of an operator's desk for one of its calls, and its record, over what the desk's lock holds: so no other
+    /// turn of the desk and no record of the operator stands between the two.
+    ///
+    /// # Errors
+    ///
+    /// The log failed. It also fails where the turn isn't in the desk's list, which doesn't happen.
+    fn record_turn<R: Wait, E: Evaluator<Catalogue>>(
+        &self,
+        context: &Context<'_, R, E>,
+        desk: &mut HallDesk<K>,
+        call: &OperatorCall,
+        heard: WholeRequest<'_>,
+        reserved: CallReservation,
+    ) -> Result<RecordedTurn<K, N, L>, CommitFault>
+        requires judge { E.may_judge }
+        requires resolved { call_of K.configuration (request_heard heard) ≡ Ok (OperatorAt desk.old.place call.now) }
+        requires reserved { IsReserved K.configuration (request_heard heard) reserved }
+        ensures recorded { IfOk result (λ turn. IsRecordedTurn K.configuration (Operator desk.old.place)
+            (request_heard heard.entry) turn.answered.answer turn.answered.stamp) }
+        ensures told { IfOk result (λ turn. ∥ IsToldTurn K.configuration desk.old.place (request_heard heard.entry)
+            turn.answered.answer turn.turns.front.seen.log ∥₁) }
+        ensures behind { IfOk result (λ turn. turn.turns.front.seen.log
+            ≡ desk.old.turns.front.seen.log ++ Answered (request_heard heard.entry) turn.answered.answer ∷ []) }
+    {
+        let rt = context.rt;
+        let note = self.hall.note(rt);
+        let answer = desk.carry_out(heard, call, note.as_ref(), &mut OpenGate, context.evaluator);
+        let status = answer.status();
+        let stamp = match append_or_release(rt, &*self.keeper, &self.nothing, reserved, status) {
+            Ok(stamp) => stamp,
+            Err(fault) => return Err(fault),
+        };
+        match desk.turns() {
+            Some(turns) => Ok(RecordedTurn {
+                answered: AnswerAtPosition { answer, stamp },
+                turns,
+            }),
+            None => Err(CommitFault::Failed(self.keeper.fail(rt))),
+        }
+    }
+
     /// One turn of the desk of the operator at this place for one of its calls, and its record, all under the desk's
-    /// lock.
+    /// lock. The turn stands in the desk's list behind all that were told before.
     ///
     /// # Errors
     ///
@@ -233,31 +285,20 @@ impl<K: HallName, N: LogName, L: Log, S: Space> DurableHall<K, N, L, S> {
         call: OperatorCall,
         heard: WholeRequest<'_>,
         reserved: CallReservation,
-    ) -> Result<AnswerAtPosition<N, L>, CommitFault>
+    ) -> Result<RecordedTurn<K, N, L>, CommitFault>
         requires judge { E.may_judge }
         requires resolved { call_of K.configuration (request_heard heard) ≡ Ok (OperatorAt place call) }
         requires reserved { IsReserved K.configuration (request_heard heard) reserved }
-        ensures { IfOk result (λ answered. IsRecordedTurn K.configuration (Operator place)
-            (request_heard heard.entry) answered.answer answered.stamp) }
+        ensures recorded { IfOk result (λ turn. IsRecordedTurn K.configuration (Operator place)
+            (request_heard heard.entry) turn.answered.answer turn.answered.stamp) }
+        ensures told { IfOk result (λ turn. ∥ IsToldTurn K.configuration place (request_heard heard.entry)
+            turn.answered.answer turn.turns.front.seen.log ∥₁) }
     {
-        let rt = context.rt;
-        let Some(mut desk) = self.hall.desk_at(rt, place) else {
-            give_back(rt, &*self.keeper, reserved);
+        let Some(mut desk) = self.hall.desk_at(context.rt, place) else {
+            give_back(context.rt, &*self.keeper, reserved);
             return Err(CommitFault::NoMemory);
         };
-        let note = self.hall.note(rt);
-        let answer = desk.carry_out(
-            heard,
-            &call,
-            note.as_ref(),
-            &mut OpenGate,
-            context.evaluator,
-        );
-        let status = answer.status();
-        match append_or_release(rt, &*self.keeper, &self.nothing, reserved, status) {
-            Ok(stamp) => Ok(AnswerAtPosition { answer, stamp }),
-            Err(fault) => Err(fault),
-        }
+        self.record_turn(context, &mut *desk, &call, heard, reserved)
     }
 
     /// One turn of the author's room for a call of the author, and its record, all under the room's lock. A

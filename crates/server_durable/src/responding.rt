@@ -106,6 +106,9 @@ fn carry_out<K: HallName, N: LogName, R: TurnRuntime, E: Evaluator<Catalogue>, L
 {
     match call {
         Call::Author(call) => city.room_turn_of(context.rt, call, heard, reserved),
-        Call::Operator(place, call) => city.desk_turn(context, place, call, heard, reserved),
+        Call::Operator(place, call) => match city.desk_turn(context, place, call, heard, reserved) {
+            Ok(turn) => Ok(turn.answered),
+            Err(fault) => Err(fault),
+        },
     }
 }

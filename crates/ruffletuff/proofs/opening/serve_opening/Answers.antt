@@ -1,6 +1,10 @@
-use Rattle.std.proofs.Common.{subst}
-use Rattle.mds_request.specs.Configuration.{configuration}
+use mathlib.Core.List.{map-map}
+use Rattle.std.proofs.Common.{sym, subst, ◌∙◌}
+use Rattle.mds_desk.specs.Desk.{state_of}
+use Rattle.mds_request.specs.Configuration.{Configuration, configuration}
+use Rattle.server_journal.specs.Starting.{IsStartedFrom}
 use Rattle.server_state.specs.Turn.{AreDesksOf}
+use Rattle.server_state.specs.TurnList.{opened_as}
 use Rattle.journal_recovery.specs.Recovery.{server_of}
 use Rattle.ruffletuff.proofs.Placed.{desks_of_server}
 use Rattle.ruffletuff.proofs.opening.serve_opening.Goals as goal
@@ -16,3 +20,14 @@ pub persist_and_serve-requires-clause-listed : goal.persist_and_serve-requires-c
 persist_and_serve-requires-clause-listed g c κs within =
     let texts = c.in_ok-room.ensures.0 in
     (texts, c.new.ensures.unchanged texts c.in_ok-room.ensures.1)
+
+pub persist_and_serve-requires-clause-resumed : goal.persist_and_serve-requires-clause-resumed
+persist_and_serve-requires-clause-resumed g c κs within =
+    let server = server_of c.in_ok-room.room c.in_ok-room.desks.items in
+    let texts = c.in_ok-room.ensures.0 in
+    let started = subst (λ (own : Configuration). IsStartedFrom own c.args.stage.dropped.now texts server)
+    c.requires.configured c.in_ok-room.ensures.2 in (
+      server,
+      (texts, c.new.ensures.unchanged texts c.in_ok-room.ensures.1, started),
+      c.in_ok-hall.ensures.opened ∙ sym (map-map opened_as state_of c.in_ok-room.desks.items),
+    )

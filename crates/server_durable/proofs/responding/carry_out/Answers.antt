@@ -15,10 +15,10 @@ returns-in-Author g c =
     subst (λ (who : Actor). IfOk c.room_turn_of.result (λ answered. IsRecordedTurn own who request answered.answer answered.stamp))
     (sym (call_of-caller own request (call.Author c.in-Author.call) resolved)) c.room_turn_of.ensures
 
-pub returns-in-Operator : goal.returns-in-Operator
-returns-in-Operator g c =
+pub returns-in-Ok : goal.returns-in-Ok
+returns-in-Ok g c =
     let own = g.K.HallName.configuration in
     let request = request_heard c.args.heard in
     let resolved : call_of own request ≡ Ok (call.Operator c.in-Operator.place c.in-Operator.call) = c.requires.resolved ∙ ap Ok c.in-Operator.is in
-    subst (λ (who : Actor). IfOk c.desk_turn.result (λ answered. IsRecordedTurn own who request answered.answer answered.stamp))
-    (sym (call_of-caller own request (call.Operator c.in-Operator.place c.in-Operator.call) resolved)) c.desk_turn.ensures
+    subst (λ (who : Actor). IsRecordedTurn own who request c.in-Ok.turn.answered.answer c.in-Ok.turn.answered.stamp)
+    (sym (call_of-caller own request (call.Operator c.in-Operator.place c.in-Operator.call) resolved)) c.in-Ok.ensures.recorded

@@ -1,0 +1,24 @@
+use Rattle.std.proofs.Common.{rules, ◌≡◌, ℕ, false, subst, ◌∙◌}
+use Rattle.mds_desk.specs.Desk.{state_of}
+use Rattle.mds_request.specs.declared.config.Actor.TheVariants.{Operator}
+use Rattle.server_state.specs.WholeRequest.{request_heard}
+use Rattle.server_durable.specs.Records.{IsSettled}
+use Rattle.server_durable.proofs.Turns.{recorded, told_last}
+use Rattle.server_durable.proofs.durable_hall.DurableHall.record_turn.Goals as goal
+
+pub returns-in-Some-clause-recorded : goal.returns-in-Some-clause-recorded
+returns-in-Some-clause-recorded g c =
+    let settled = subst (λ (status : ℕ). IsSettled c.args.reserved status c.in-Ok.stamp) c.status-status.ensures c.in-Ok.ensures in
+    recorded g.K.HallName.configuration (Operator c.args.desk.now.place) (request_heard c.args.heard) c.carry_out-answer.result
+    c.args.reserved c.in-Ok.stamp c.carry_out-answer.ensures.replies c.requires.reserved settled
+
+pub returns-in-Some-clause-told : goal.returns-in-Some-clause-told
+returns-in-Some-clause-told g c =
+    let after = c.carry_out-answer.new.self in
+    let turns = c.in-Some.turns in
+    let kept : after.is_lost ≡ false = search rules in
+    let whole : turns.front.seen.log ≡ after.turns.front.seen.log = search rules in
+    let placed : turns.place ≡ c.args.desk.now.place = search rules in
+    told_last g.K.HallName.configuration c.args.desk.now.place turns.place c.args.desk.now.turns.front.seen.log turns.front.seen.log
+    (request_heard c.args.heard) c.carry_out-answer.result (state_of after.desk) placed c.in-Some.ensures.turns
+    (whole ∙ c.carry_out-answer.ensures.listed kept)
