@@ -34,4 +34,3 @@ pub front_of : {A : Type 0} (mine other again both : List A) (n m : ℕ) → n �
 front_of {A} mine other again both n m len len' same p q is =
     let least : n ≤ m = grind (arith, nat_tests) in
     prefix_shorter mine other both (subst (λ (xs : List A). IsPrefix xs both) same p) q (omega (arith, len, len', least))
-

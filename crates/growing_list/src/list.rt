@@ -117,8 +117,9 @@ impl<E> ListFront<E> {
         ensures book { self.new.seen.book ≡ self.old.seen.book }
         ensures added { result ≡ true → self.new.seen.log ≡ self.old.seen.log ++ M.ask about.now ∷ [] }
     {
-        let mut offer: Offer<E, u64, ListRule, NoListGain> =
-            self.seen.plain::<NoListGain, X, M>(about);
+        let mut offer: Offer<E, u64, ListRule, NoListGain> = self
+            .seen
+            .plain::<NoListGain, X, M>(about);
         let mut pen = self.seen.no_pen();
         let count = self.count;
         let found = head

@@ -2,6 +2,7 @@
 ghost use Rattle.std.specs.Prelude.{◌≡◌, ◌<◌};
 ghost use Rattle.mds_request.specs.Configuration.{configuration};
 ghost use Rattle.mds_snapshot.specs.Opening.{book_of};
+ghost use Rattle.server_state.specs.TurnLists.{books_of};
 
 use crate::arguments::{Arguments, read_words};
 use crate::configuration::read_configuration;
@@ -14,7 +15,7 @@ use server_http::{Queues, bind_first};
 use server_start::{
     HELP, HallService, ServeCommand, ServeFault, SharedMoments, VERSION, command_of, serve, workers,
 };
-use server_state::{Hall, SharedHallName};
+use server_state::{Hall, SharedHallName, TurnLists};
 use std::env::Env;
 use std::io::{self, Input};
 use std::marker::Brand;
@@ -61,7 +62,8 @@ fn prepare_and_serve<R: ServerRuntime>(
     config: Config,
 ) -> Result<(), ServeFault> {
     let blank = prepare(rt.alloc())?;
-    open::<Brand, R>(rt, arguments, config, blank)
+    let lists = TurnLists::new(rt.alloc(), config.operators().len())?;
+    open::<Brand, R>(rt, arguments, config, blank, lists)
 }
 
 /// Opens a hall, serves and ends it.
@@ -70,14 +72,16 @@ fn open<K: SharedHallName, R: ServerRuntime>(
     arguments: Arguments<'_>,
     config: Config,
     blank: Blank,
+    lists: TurnLists,
 ) -> Result<(), ServeFault>
     requires book { book_of blank ≡ K.book }
     requires configured { configuration config ≡ K.configuration }
+    requires turns { books_of lists ≡ K.turns }
 {
     let queues = Queues::new(rt.alloc(), &config)?;
     let processors = available_parallelism(rt).map_or(1, |n| n.get());
     let threads = workers(processors, &config);
-    let hall = Hall::<K>::new(rt, rt.alloc(), config, blank)?;
+    let hall = Hall::<K>::new(rt, rt.alloc(), config, blank, lists)?;
     match listen(rt, threads, arguments, hall, queues, MachineClock(*rt)) {
         Ok(()) => Ok(()),
         Err(_) => Err(ServeFault::NoListener),

@@ -2,6 +2,7 @@
 ghost use Rattle.std.specs.Prelude.{◌≡◌, ℕ, List, IfOk};
 ghost use Rattle.mds_request.specs.Configuration.{configuration};
 ghost use Rattle.mds_snapshot.specs.Opening.{book_of};
+ghost use Rattle.server_state.specs.TurnLists.{books_of};
 ghost use Rattle.journal_recovery.specs.Recovery.{server_of};
 ghost use Rattle.server_journal.specs.Starting.{IsStartedFromLog};
 
@@ -30,7 +31,7 @@ use server_journal::{
     run_concurrently,
 };
 use server_start::workers;
-use server_state::{Hall, HallName, SharedHallName};
+use server_state::{Hall, HallName, SharedHallName, TurnLists};
 use std::alloc::AllocGlobal;
 use std::fs::File;
 use std::marker::Brand;
@@ -281,7 +282,8 @@ where
     requires space { S.aside space ≡ 0 }
 {
     let blank = prepare(rt.alloc())?;
-    serve_opening::<Brand, L, S, R>(rt, log, space, config, blank, stage)
+    let lists = TurnLists::new(rt.alloc(), config.operators().len())?;
+    serve_opening::<Brand, L, S, R>(rt, log, space, config, (blank, lists), stage)
 }
 
 /// The author's room and the desks, as the server that wrote this log left them: see `server_journal::resume`. Where
@@ -310,7 +312,7 @@ fn resume_and_report<K: HallName, L: Log, R: ThreadHost + Wait>(
     }
 }
 
-/// Starts a server from a log, under the name of one opening, and serves it.
+/// Starts a server from a log, under the name of one opening and of its desks' lists, and serves it.
 ///
 /// # Errors
 ///
@@ -320,17 +322,19 @@ fn serve_opening<K: SharedHallName, L: Log + Send, S: Space + Send, R>(
     log: L,
     space: S,
     config: Config,
-    blank: Blank,
+    opened: (Blank, TurnLists),
     stage: ServingParts<'_>,
 ) -> Result<(), ExitCause>
 where
     R: ServerHost,
-    requires book { book_of blank ≡ K.book }
+    requires book { book_of opened.0 ≡ K.book }
     requires configured { configuration config ≡ K.configuration }
+    requires turns { books_of opened.1 ≡ K.turns }
     requires listed { (first : List (List ℕ)) × L.may_be log first }
     requires space { S.aside space ≡ 0 }
 {
     let mut log = log;
+    let (blank, lists) = opened;
     let counters = stage.board.counters;
     let (room, desks) = resume_and_report::<K, L, R>(
         rt,
@@ -340,7 +344,7 @@ where
         stage.dropped,
         counters,
     )?;
-    let hall = Hall::<K>::of(rt, rt.alloc(), room, desks)?;
+    let hall = Hall::<K>::of(rt, rt.alloc(), room, desks, lists)?;
     let Ok(history) = UnnamedHistory::new(&mut log) else {
         hall.finish(rt);
         return Err(ExitCause::Folder(FolderFault::Unusable));

@@ -3,4 +3,6 @@ pub mod Halls
 mod Outcomes
 mod Placing
 pub mod Resolving
+mod TurnBooks
+mod TurnLists
 mod Turns

@@ -7,3 +7,7 @@ pub mod Respond
 pub mod Response
 pub mod Query
 pub mod Turn
+pub mod TurnItem
+pub mod TurnList
+pub mod TurnBooks
+pub mod TurnLists

@@ -1,5 +1,6 @@
 //! The server's state: the author's room and the desks, each behind a lock of its own.
-ghost use Rattle.std.specs.Prelude.{◌≡◌, ◌<◌, IfOk, IfSome, Ok, Some, length, map};
+ghost use Rattle.std.specs.Prelude.{◌≡◌, ◌<◌, ◌++◌, ◌∷◌, [], IfOk, IfSome, Ok, Some, length, map};
+ghost use mathlib.Core.List.{IsPrefix};
 ghost use Rattle.std.specs.Sync.Mutex.{mutex_guard_value};
 ghost use Rattle.std.specs.List.{range_with_len};
 ghost use Rattle.mds_request.specs.Call.{call_of};
@@ -13,11 +14,14 @@ ghost use Rattle.server_state.specs.Client.{IsWithin};
 ghost use Rattle.server_state.specs.WholeRequest.{request_heard};
 ghost use Rattle.server_state.specs.Resolved.{call_in};
 ghost use Rattle.server_state.specs.Turn.{AreDesksOf, RoomReplies};
+ghost use Rattle.server_state.specs.TurnList.{AreTurnsOf, opened_as};
+ghost use Rattle.server_state.specs.TurnLists.{books_of};
 
 use crate::hall_name::HallName;
 use crate::http_request::{head_request, token};
-use crate::locks::{DeskLock, HallDesk, HallRoom};
+use crate::locks::{DeskLock, EndedDesk, HallDesk, HallRoom};
 use crate::resolved::ResolvedCall;
+use crate::turn_list::{NamedTurnLists, TurnLists};
 use crate::whole_request::WholeRequest;
 use http::request::Parts;
 use mds_desk::{AlwaysPublish, AuthorRoom, Desk, SharedReply, furnish};
@@ -42,22 +46,30 @@ pub struct Hall<K: HallName> {
     ghost in_order: { map (λ desk. desk.place) desks.items ≡ range_with_len 0 (length (configuration config.value).operators) },
 }
 
-/// Puts each desk behind a lock, in the configuration's order.
+/// Puts each desk behind a lock, in the configuration's order, with its empty list.
 ///
 /// # Errors
 ///
-/// Out of memory.
+/// Out of memory, or there are too few lists.
 fn lock_each<K: HallName>(
     alloc: Global,
     desks: Vec<Desk<K>>,
+    lists: &mut NamedTurnLists<K>,
 ) -> Result<Vec<DeskLock<K>>, AllocError>
     requires { AreDesksOf K.configuration (map state_of desks.items) }
-    ensures { IfOk result (λ locked. map (λ desk. desk.place) locked.items ≡ range_with_len 0 (length K.configuration.operators)) }
+    ensures places { IfOk result (λ locked. map (λ desk. desk.place) locked.items ≡ range_with_len 0 (length K.configuration.operators)) }
+    ensures opened { IfOk result (λ locked. map (λ desk. desk.opening.front.seen.log) locked.items ≡ map (λ desk. opened_as (state_of desk)) desks.items) }
 {
     let mut locked = Vec::with_capacity(alloc, desks.len())?;
     for desk in desks {
         let place = locked.len();
-        locked.push(DeskLock::new(place, desk))?;
+        let Some(list) = lists.take(place) else {
+            return Err(AllocError);
+        };
+        let Some(lock) = DeskLock::new(place, desk, list) else {
+            return Err(AllocError);
+        };
+        locked.push(lock)?;
     }
     Ok(locked)
 }
@@ -90,31 +102,42 @@ impl<K: HallName> Hall<K> {
         alloc: Global,
         config: Config,
         blank: Blank,
+        lists: TurnLists,
     ) -> Result<Hall<K>, OpenFault>
         requires book { book_of blank ≡ K.book }
         requires configured { configuration config ≡ K.configuration }
+        requires turns { books_of lists ≡ K.turns }
         ensures { IfOk result (λ hall. configuration hall.config.value ≡ configuration config) }
     {
         let (room, desks) = furnish::<K, R>(rt, alloc, config, blank)?;
-        Hall::of(rt, alloc, room, desks)
+        Hall::of(rt, alloc, room, desks, lists)
     }
 
-    /// A hall over this room and these desks, all of one opening. They may have answered requests.
+    /// A hall over this room and these desks, all of one opening, with an empty list for the turns of
+    /// each desk. They may have answered requests before, which stand in no list.
     ///
     /// # Errors
     ///
-    /// `NoMemory` where memory ran out. The room is ended then.
+    /// `NoMemory` where memory ran out, or there are too few lists. The room is ended then.
     pub fn of<R: Wait>(
         rt: &R,
         alloc: Global,
         room: AuthorRoom<K>,
         desks: Vec<Desk<K>>,
+        lists: TurnLists,
     ) -> Result<Hall<K>, OpenFault>
         requires room { (room_of room).configuration ≡ K.configuration }
         requires desks { AreDesksOf K.configuration (map state_of desks.items) }
-        ensures { IfOk result (λ hall. configuration hall.config.value ≡ K.configuration) }
+        requires turns { books_of lists ≡ K.turns }
+        ensures configured { IfOk result (λ hall. configuration hall.config.value ≡ K.configuration) }
+        ensures opened { IfOk result (λ hall. map (λ desk. desk.opening.front.seen.log) hall.desks.items ≡ map (λ desk. opened_as (state_of desk)) desks.items) }
     {
-        match (room.configuration(), room.routes(), lock_each(alloc, desks)) {
+        let mut lists = NamedTurnLists::new(lists);
+        match (
+            room.configuration(),
+            room.routes(),
+            lock_each(alloc, desks, &mut lists),
+        ) {
             (Ok(config), Ok(routes), Ok(desks)) => Ok(Hall {
                 config,
                 routes,
@@ -248,15 +271,39 @@ impl<K: HallName> Hall<K> {
         Arc::try_clone(&self.config)
     }
 
-    /// Ends the author's room: no request can come any more.
-    pub fn finish<R: Wait>(self, rt: &R) {
+    /// Ends the author's room, and gives out the desks: no request can come any more.
+    pub fn finish<R: Wait>(self, rt: &R) -> EndedDesks<K>
+        ensures { result.desks ≡ self.desks }
+    {
         let Self {
             config: _config,
             routes: _routes,
             room,
-            desks: _desks,
+            desks,
             latest: _latest,
         } = self;
         room.into_inner().finish(rt);
+        EndedDesks { desks }
+    }
+}
+
+/// The desks of a hall that has ended.
+#[derive(Drop)]
+pub struct EndedDesks<K: HallName> {
+    desks: Vec<DeskLock<K>>,
+}
+
+impl<K: HallName> EndedDesks<K> {
+    /// The last of these desks, which is taken out, with all its turns, from the state in which it
+    /// was put behind its lock. None is given where there is none, or where a turn isn't in its
+    /// list, which doesn't happen.
+    pub fn pop(&mut self) -> Option<EndedDesk<K>>
+        ensures opening { IfSome result (λ ended. map (λ desk. desk.opening.front.seen.log) self.old.desks.items
+            ≡ map (λ desk. desk.opening.front.seen.log) self.new.desks.items ++ ended.opening.front.seen.log ∷ []) }
+        ensures begins { IfSome result (λ ended. IsPrefix ended.opening.front.seen.log ended.turns.front.seen.log) }
+        ensures turns { IfSome result (λ ended. ∥ AreTurnsOf K.configuration ended.turns.place ended.turns.front.seen.log (state_of ended.desk) ∥₁) }
+    {
+        let desk = self.desks.pop()?;
+        desk.finish()
     }
 }

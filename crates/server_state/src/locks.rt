@@ -1,5 +1,6 @@
 //! What lies behind the locks of a hall: of one opening and one configuration, which `K` names.
-ghost use Rattle.std.specs.Prelude.{◌≡◌, ◌⊎◌, IfErr, IfOk, IfSome, IsSome, Ok, OnErr, map, option_copied};
+ghost use Rattle.std.specs.Prelude.{◌≡◌, ◌⊎◌, ◌++◌, ◌∷◌, [], IfErr, IfOk, IfSome, IsSome, MatchResult, Ok, OnErr, false, map, option_copied, true};
+ghost use mathlib.Core.List.{IsPrefix};
 ghost use Rattle.std.specs.Mem.{manually_drop_value};
 ghost use Rattle.std.specs.Sync.Mutex.{mutex_guard_value};
 ghost use Rattle.mds_desk.specs.Desk.{state_of};
@@ -12,10 +13,14 @@ ghost use Rattle.mds_desk.specs.Room.{room_of, TakesRoomTurn};
 ghost use Rattle.server_state.specs.WholeRequest.{request_heard};
 ghost use Rattle.server_state.specs.Query.{DeskTells, Looks, RoomTells};
 ghost use Rattle.server_state.specs.Turn.{DeskReplies, DeskRuns, IsDeskAt, IsTold, RoomReplies, TakesToldRun, TakesToldTurn};
+ghost use Rattle.server_state.specs.TurnItem.{Answered, Ran};
+ghost use Rattle.server_state.specs.TurnList.{AreTurnsOf, opened_as};
 
 use crate::hall_name::HallName;
 use crate::turn::{query_desk, take_call_turn, take_run, take_turn};
+use crate::turn_list::{DeskTurns, LoggedTurn, TurnList};
 use crate::whole_request::WholeRequest;
+use growing_list::NewList;
 use mds_catalog::Catalogue;
 use mds_desk::{AuthorRoom, Desk, DeskQuery, Gate, PublishGuard, RoomQuery, SharedReply};
 use mds_request::{AuthorCall, Code, OperatorCall, Request};
@@ -31,21 +36,45 @@ use std::thread::yield_now;
 /// sleeps for it.
 const TRIES: usize = 32;
 
-/// The desk of the operator at this index of the configuration that `K` names.
+/// The desk of the operator at this index of the configuration that `K` names, with the list of its
+/// turns since it was put behind its lock.
 #[derive(Drop)]
 pub struct HallDesk<K: HallName> {
     place: usize,
     desk: Desk<K>,
+    turns: TurnList<K>,
+    /// A turn isn't in the list, and no later one is told. It doesn't happen.
+    is_lost: bool,
     /// The number of vehicles, shared with its reader.
     vehicles: Option<Arc<AtomicU64>>,
     ghost configured: { (state_of desk).configuration ≡ K.configuration },
     ghost placed: { (state_of desk).place ≡ place },
+    ghost listed_there: { turns.place ≡ place },
+    ghost listed: { ∥ (is_lost ≡ false → AreTurnsOf K.configuration place turns.front.seen.log (state_of desk)) ∥₁ },
 }
 
 /// Stores the number of vehicles of a desk's operator, where it is wanted.
 fn store_count<K: HallName>(desk: &Desk<K>, vehicles: &Option<Arc<AtomicU64>>) {
     if let Some(vehicles) = vehicles {
         vehicles.store(desk.vehicles() as u64, Ordering::SeqCst);
+    }
+}
+
+/// Adds the run of turns that gave these replies to the list, where there was one, and returns
+/// whether none is missing.
+fn list_run<K: HallName>(
+    turns: &mut TurnList<K>,
+    requests: &[Request<'_>],
+    run: &Result<Vec<SharedReply>, AllocError>,
+) -> bool
+    ensures place { turns.new.place ≡ turns.old.place }
+    ensures added { MatchResult run.now
+        (λ replies. result ≡ true → turns.new.front.seen.log ≡ turns.old.front.seen.log ++ Ran (map request_of requests.now) replies.items ∷ [])
+        (λ _. (result ≡ true) × (turns.new.front.seen.log ≡ turns.old.front.seen.log)) }
+{
+    match run {
+        Ok(replies) => turns.add_run(requests, replies),
+        Err(_) => true,
     }
 }
 
@@ -91,6 +120,7 @@ impl<K: HallName> HallDesk<K> {
         requires { E.may_judge }
         ensures turn { TakesToldTurn (state_of self.old.desk) (option_copied note.entry) (request_heard heard.entry) result (state_of self.new.desk) }
         ensures replies { DeskReplies K.configuration self.old.place (request_heard heard.entry) result }
+        ensures listed { self.new.is_lost ≡ false → self.new.turns.front.seen.log ≡ self.old.turns.front.seen.log ++ Answered (request_heard heard.entry) result ∷ [] }
         ensures place { self.new.place ≡ self.old.place }
     {
         let request = heard.request();
@@ -108,9 +138,11 @@ impl<K: HallName> HallDesk<K> {
         requires { E.may_judge }
         ensures turn { TakesToldTurn (state_of self.old.desk) (option_copied note.entry) (request_of request.now) result (state_of self.new.desk) }
         ensures replies { DeskReplies K.configuration self.old.place (request_of request.now) result }
+        ensures listed { self.new.is_lost ≡ false → self.new.turns.front.seen.log ≡ self.old.turns.front.seen.log ++ Answered (request_of request.now) result ∷ [] }
         ensures place { self.new.place ≡ self.old.place }
     {
         let reply = take_turn(request, &mut self.desk, note, gate, evaluator);
+        self.is_lost = self.is_lost | !self.turns.add(request, &reply);
         store_count(&self.desk, &self.vehicles);
         reply
     }
@@ -130,10 +162,12 @@ impl<K: HallName> HallDesk<K> {
         requires resolved { call_of K.configuration (request_heard heard) ≡ Ok (OperatorAt self.old.place call.now) }
         ensures turn { TakesToldTurn (state_of self.old.desk) (option_copied note.entry) (request_heard heard.entry) result (state_of self.new.desk) }
         ensures replies { DeskReplies K.configuration self.old.place (request_heard heard.entry) result }
+        ensures listed { self.new.is_lost ≡ false → self.new.turns.front.seen.log ≡ self.old.turns.front.seen.log ++ Answered (request_heard heard.entry) result ∷ [] }
         ensures place { self.new.place ≡ self.old.place }
     {
         let request = heard.request();
         let reply = take_call_turn(&request, call, &mut self.desk, note, gate, evaluator);
+        self.is_lost = self.is_lost | !self.turns.add(&request, &reply);
         store_count(&self.desk, &self.vehicles);
         reply
     }
@@ -157,36 +191,102 @@ impl<K: HallName> HallDesk<K> {
         ensures run { IfOk result (λ replies. TakesToldRun (state_of self.old.desk) (option_copied note.entry) (map request_of requests.now)
             replies.items (state_of self.new.desk)) }
         ensures replies { IfOk result (λ replies. DeskRuns K.configuration self.old.place (map request_of requests.now) replies.items) }
+        ensures listed { IfOk result (λ replies. self.new.is_lost ≡ false
+            → self.new.turns.front.seen.log ≡ self.old.turns.front.seen.log ++ Ran (map request_of requests.now) replies.items ∷ []) }
         ensures unasked { OnErr result (IsTold (state_of self.old.desk) (option_copied note.entry) (state_of self.new.desk)) }
         ensures place { self.new.place ≡ self.old.place }
     {
         let replies = take_run(requests, &mut self.desk, note, gate, evaluator);
+        self.is_lost = self.is_lost | !list_run(&mut self.turns, requests, &replies);
         store_count(&self.desk, &self.vehicles);
         replies
     }
+
+    /// The turns of this desk so far. They aren't given where one isn't in the list, which doesn't
+    /// happen.
+    pub fn turns(&self) -> Option<DeskTurns<K>>
+        ensures place { IfSome result (λ turns. turns.place ≡ self.now.place) }
+        ensures whole { IfSome result (λ turns. (self.now.is_lost ≡ false) × (turns.front.seen.log ≡ self.now.turns.front.seen.log)) }
+        ensures turns { IfSome result (λ turns. ∥ AreTurnsOf K.configuration turns.place turns.front.seen.log (state_of self.now.desk) ∥₁) }
+    {
+        if self.is_lost {
+            None
+        } else {
+            Some(self.turns.turns())
+        }
+    }
 }
 
-/// A desk behind its lock.
+/// A desk behind its lock, and its list as it was put there.
 #[derive(Drop)]
 pub(crate) struct DeskLock<K: HallName> {
     place: usize,
+    opening: DeskTurns<K>,
     desk: Mutex<HallDesk<K>>,
 }
 
+/// A desk that has taken its last turn, with all its turns since it was put behind its lock, and
+/// its list as it was then.
+#[derive(Drop)]
+pub struct EndedDesk<K: HallName> {
+    pub place: usize,
+    pub desk: Desk<K>,
+    pub opening: DeskTurns<K>,
+    pub turns: DeskTurns<K>,
+}
+
 impl<K: HallName> DeskLock<K> {
-    /// Puts the desk of the operator at this index behind a lock.
-    pub(crate) fn new(place: usize, desk: Desk<K>) -> DeskLock<K>
-        requires { IsDeskAt K.configuration place (state_of desk) }
-        ensures { result.place ≡ place }
+    /// Puts the desk of the operator at this index behind a lock, with its empty list. It always
+    /// does.
+    pub(crate) fn new(place: usize, desk: Desk<K>, list: NewList<LoggedTurn>) -> Option<DeskLock<K>>
+        requires desk { IsDeskAt K.configuration place (state_of desk) }
+        requires list { list.front.seen.book ≡ K.turns place }
+        ensures place { IfSome result (λ lock. lock.place ≡ place) }
+        ensures opening { IfSome result (λ lock. lock.opening.front.seen.log ≡ opened_as (state_of desk)) }
     {
-        DeskLock {
+        let turns = TurnList::open(place, list, &desk)?;
+        Some(DeskLock {
             place,
+            opening: turns.turns(),
             desk: Mutex::new(HallDesk {
                 place,
                 desk,
+                turns,
+                is_lost: false,
                 vehicles: None,
             }),
+        })
+    }
+
+    /// Takes the desk out of its lock, once no thread has it any more, with all its turns.
+    pub(crate) fn finish(self) -> Option<EndedDesk<K>>
+        ensures opening { IfSome result (λ ended. ended.opening ≡ self.opening) }
+        ensures begins { IfSome result (λ ended. IsPrefix ended.opening.front.seen.log ended.turns.front.seen.log) }
+        ensures turns { IfSome result (λ ended. ∥ AreTurnsOf K.configuration ended.turns.place ended.turns.front.seen.log (state_of ended.desk) ∥₁) }
+    {
+        let Self {
+            place,
+            opening,
+            desk,
+        } = self;
+        let ended = desk.into_inner();
+        let turns = ended.turns()?;
+        if !opening.begins(&turns) {
+            return None;
         }
+        let HallDesk {
+            place: _place,
+            desk,
+            turns: _turns,
+            is_lost: _is_lost,
+            vehicles: _vehicles,
+        } = ended;
+        Some(EndedDesk {
+            place,
+            desk,
+            opening,
+            turns,
+        })
     }
 
     /// From now on this number is that of the vehicles of the desk's operator.

@@ -2,6 +2,7 @@
 ghost use Rattle.std.specs.Prelude.{◌≡◌};
 ghost use Rattle.mds_request.specs.Configuration.{configuration};
 ghost use Rattle.mds_snapshot.specs.Opening.{book_of};
+ghost use Rattle.server_state.specs.TurnLists.{books_of};
 
 use crate::city::{BOTH, CAP, CONFIGURATION, NEW, SQUARE};
 use crate::runtime::TestRuntime;
@@ -16,7 +17,7 @@ use mds_request::Config;
 use mds_snapshot::{Blank, prepare};
 use mds_text::Moment;
 use server_responses::HttpResult;
-use server_state::{Arrived, Hall, HallName, SharedHallName, respond};
+use server_state::{Arrived, Hall, HallName, SharedHallName, TurnLists, respond};
 use std::alloc::{AllocGlobal, Global};
 use std::marker::Brand;
 use std::process::Abort;
@@ -140,7 +141,8 @@ fn run_hall_test<R: SharedHallRuntime>(rt: &R, visit: HallTest) -> Result<(), Fa
     let alloc = rt.alloc();
     let config = Config::read(alloc, CONFIGURATION)?;
     let blank = prepare(alloc)?;
-    open_and_run::<Brand, R>(rt, alloc, config, blank, visit)
+    let lists = TurnLists::new(alloc, config.operators().len())?;
+    open_and_run::<Brand, R>(rt, alloc, config, blank, lists, visit)
 }
 
 fn open_and_run<K: SharedHallName, R: SharedHallRuntime>(
@@ -148,12 +150,14 @@ fn open_and_run<K: SharedHallName, R: SharedHallRuntime>(
     alloc: Global,
     config: Config,
     blank: Blank,
+    lists: TurnLists,
     visit: HallTest,
 ) -> Result<(), Fail>
     requires book { book_of blank ≡ K.book }
     requires configured { configuration config ≡ K.configuration }
+    requires turns { books_of lists ≡ K.turns }
 {
-    let hall = Hall::<K>::new(rt, alloc, config, blank)?;
+    let hall = Hall::<K>::new(rt, alloc, config, blank, lists)?;
     let config = hall.configuration().expect(rt, "a share");
     match visit {
         HallTest::OwnQuestions => session::own_questions(rt, alloc, &hall),

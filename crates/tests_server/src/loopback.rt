@@ -2,6 +2,7 @@
 ghost use Rattle.std.specs.Prelude.{◌≡◌};
 ghost use Rattle.mds_request.specs.Configuration.{configuration};
 ghost use Rattle.mds_snapshot.specs.Opening.{book_of};
+ghost use Rattle.server_state.specs.TurnLists.{books_of};
 
 use mds_request::Config;
 use mds_snapshot::{Blank, prepare};
@@ -9,7 +10,7 @@ use mds_text::Moment;
 use server_admission::Moments;
 use server_http::{ConnectionRuntime, Queues, bind_first};
 use server_start::{HallService, serve};
-use server_state::{Hall, SharedHallName};
+use server_state::{Hall, SharedHallName, TurnLists};
 use std::alloc::Global;
 use std::io::{self, Read, Write};
 use std::marker::Brand;
@@ -217,13 +218,15 @@ fn serve_script<K: SharedHallName, R: LoopbackRuntime>(
     scene: LoopbackSetup,
     config: Config,
     blank: Blank,
+    lists: TurnLists,
     script: Script,
 ) -> Result<(), Fail>
     requires book { book_of blank ≡ K.book }
     requires configured { configuration config ≡ K.configuration }
+    requires turns { books_of lists ≡ K.turns }
 {
     let queues = Queues::new(rt.alloc(), &config)?;
-    let hall = Hall::<K>::new(rt, rt.alloc(), config, blank)?;
+    let hall = Hall::<K>::new(rt, rt.alloc(), config, blank, lists)?;
     let (wanted, served) = send_and_serve(rt, scene, hall, queues, script.clock());
     served?;
     assert!(rt; wanted);
@@ -261,7 +264,8 @@ where
     let scene = listen_with_clients(rt, rt.alloc(), runtime, script.exchanges())?;
     let config = Config::read(rt.alloc(), CONFIGURATION)?;
     let blank = prepare(rt.alloc())?;
-    serve_script::<Brand, _>(rt, scene, config, blank, script)
+    let lists = TurnLists::new(rt.alloc(), config.operators().len())?;
+    serve_script::<Brand, _>(rt, scene, config, blank, lists, script)
 }
 
 /// A policy is published, and an operator asks for compliance.

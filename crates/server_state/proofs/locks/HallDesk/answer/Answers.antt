@@ -5,3 +5,6 @@ returns-clause-turn g c = rw c.request-request.ensures at c.answer_request.ensur
 
 pub returns-clause-replies : goal.returns-clause-replies
 returns-clause-replies g c = rw c.request-request.ensures at c.answer_request.ensures.replies
+
+pub returns-clause-listed : goal.returns-clause-listed
+returns-clause-listed g c = rw c.request-request.ensures at c.answer_request.ensures.listed

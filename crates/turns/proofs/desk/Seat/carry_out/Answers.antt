@@ -11,7 +11,7 @@ invariant_of-self-2 g c =
     let t = turn c.args.request c.turn-reply.result in
     let listed : c.again.result.seen.log ≡ mine.turns.seen.log ++ t ∷ [] = search rules in
     let appended : of place c.settle.new.own.log ≡ of place mine.own.log ++ records place (t ∷ []) =
-        subst (λ (by : ℕ). of by c.settle.new.own.log ≡ of by mine.own.log ++ records by (t ∷ [])) c.self.invariant.0 c.in_ok-stamp.ensures.appended in (
+    subst (λ (by : ℕ). of by c.settle.new.own.log ≡ of by mine.own.log ++ records by (t ∷ [])) c.self.invariant.0 c.in_ok-stamp.ensures.appended in (
       search rules,
       c.self.invariant.1,
       search rules,
@@ -28,6 +28,6 @@ returns-clause-told g c =
     let all = c.extend.new.self.seen.log in
     let listed : all ≡ mine.turns.seen.log ++ t ∷ [] = search rules in
     let appended : of place c.settle.new.own.log ≡ of place mine.own.log ++ records place (t ∷ []) =
-        subst (λ (by : ℕ). of by c.settle.new.own.log ≡ of by mine.own.log ++ records by (t ∷ [])) c.self.invariant.0 c.in_ok-stamp.ensures.appended in
+    subst (λ (by : ℕ). of by c.settle.new.own.log ≡ of by mine.own.log ++ records by (t ∷ [])) c.self.invariant.0 c.in_ok-stamp.ensures.appended in
     let logged = logged_more g.D.Desk.takes first place mine.turns.seen.log all mine.own.log c.settle.new.own.log mine.desk c.turn-reply.new.self t (c.self.invariant.3 kept) c.turn-reply.ensures listed appended in
     told_turn g.D.Desk.takes first place mine.turns.seen.log all c.settle.new.own.log c.in_ok-stamp.stamp.seen.log c.turn-reply.new.self c.args.request c.turn-reply.result logged listed c.in_ok-stamp.ensures.stamp
