@@ -1,8 +1,8 @@
 pub mod Clients
 pub mod Halls
+mod ListedTurns
 mod Outcomes
 mod Placing
 pub mod Resolving
 mod TurnBooks
-mod TurnLists
 mod Turns

@@ -61,3 +61,14 @@ pub one_more : {L : Type 0} (place : L → ℕ) (locks all : List L) (next : L) 
 one_more place locks all next n m more is long so_far =
     ap (map place) more ∙ map-append place locks (next ∷ []) ∙ ap (λ xs. xs ++ place next ∷ []) so_far ∙ ap (λ x. range_with_len 0 n ++ x ∷ []) is
     ∙ sym (range_more n) ∙ ap (range_with_len 0) (sym long)
+
+-- one more lock, which is to it what its desk is
+pub one_more_as : {L D X : Type 0} (f : L → X) (g : D → X) (locks all : List L) (next : L) (desks : List D) (d : D)
+    → all ≡ locks ++ next ∷ [] → f next ≡ g d → map f locks ≡ map g desks → map f all ≡ map g (desks ++ d ∷ [])
+one_more_as f g locks all next desks d more is so_far =
+    ap (map f) more ∙ map-append f locks (next ∷ []) ∙ ap (λ xs. xs ++ f next ∷ []) so_far ∙ ap (λ x. map g desks ++ x ∷ []) is
+    ∙ sym (map-append g desks (d ∷ []))
+
+pub empty : {D : Type 0} (desks : List D) → length desks ≡ 0 → desks ≡ []
+empty [] none = refl
+empty (d ∷ desks) none = absurd (omega (arith, none))

@@ -1,5 +1,5 @@
 -- Books that are under their names, and one that is taken out.
-use Rattle.std.proofs.Common.{◌≡◌, ℕ, zero, suc, ◌<◌, List, [], ◌∷◌, length, map, Option, Some, None, option_map, slice_get, slice_set, unwrap_or, refl, sym, ap, ◌∙◌}
+use Rattle.std.proofs.Common.{◌≡◌, ℕ, zero, suc, ◌<◌, List, [], ◌∷◌, length, map, Option, Some, None, option_map, slice_get, slice_set, unwrap_or, IfSome, refl, sym, ap, ◌∙◌}
 use Rattle.logbook.specs.Pages.{Book}
 use Rattle.server_state.specs.TurnBooks.{AreNamed}
 use Rattle.server_state.specs.TurnLists.{book_at}
@@ -32,3 +32,9 @@ module _ {L : Type 0} (book : L → Book) where
   pub named_at : (turns : ℕ → Book) (items : List (Option L)) (place : ℕ) (l : L) → AreNamed turns (map (option_map book) items)
       → slice_get items place ≡ Some (Some l) → book l ≡ turns place
   named_at turns items place l named at = named place (book l) (found_book items place l at)
+
+  -- whatever is found at this place is under its name
+  pub named_found : (turns : ℕ → Book) (items : List (Option L)) (place : ℕ) (found : Option L) → AreNamed turns (map (option_map book) items)
+      → slice_get items place ≡ Some found → IfSome found (λ l. book l ≡ turns place)
+  named_found turns items place None named at = tt
+  named_found turns items place (Some l) named at = named_at turns items place l named at

@@ -8,13 +8,6 @@ use Rattle.server_state.proofs.Outcomes.{desk_answered, refusal_answered, room_a
 use Rattle.server_state.proofs.Turns.{of_ok}
 use Rattle.server_state.proofs.answering.carry_out.Goals as goal
 
-pub desk_at-requires : goal.desk_at-requires
-desk_at-requires g c =
-    let hall = c.args.context.now.hall.now in
-    let arm = c.in-Ok-Operator in
-    caller_within (configuration hall.config.value) (request_heard c.args.heard) arm.place arm.call
-    (ap (λ served. call_of served (request_heard c.args.heard)) hall.configured ∙ c.requires.resolved ∙ arm.is ∙ ap Ok arm.field-0-is)
-
 pub returns-in-Ok-Author : goal.returns-in-Ok-Author
 returns-in-Ok-Author g c =
     let hall = c.args.context.now.hall.now in
@@ -27,10 +20,9 @@ returns-in-Ok-Author g c =
 pub returns-in-Some : goal.returns-in-Some
 returns-in-Some g c =
     let arm = c.in-Ok-Operator in
-    let placed : c.deref_mut.result.now.place ≡ arm.place = ap (λ d. d.place) c.deref_mut.ensures.value ∙ c.in-Some.ensures in
-    let replies = subst (λ place. DeskReplies g.K.HallName.configuration place (request_heard c.args.heard) c.carry_out-answer.result) placed c.carry_out-answer.ensures.replies in
     of_ok c.response-in-Ok-Operator.result (λ response says.
-    desk_answered g.K.HallName.configuration (request_heard c.args.heard) c.carry_out-answer.result response says arm.place arm.call (c.requires.resolved ∙ arm.is ∙ ap Ok arm.field-0-is) replies)
+    desk_answered g.K.HallName.configuration (request_heard c.args.heard) c.in-Some.told.reply response says arm.place arm.call (c.requires.resolved ∙ arm.is ∙ ap Ok arm.field-0-is)
+    c.in-Some.ensures.replies)
     c.response-in-Ok-Operator.ensures
 
 pub returns-in-Err : goal.returns-in-Err

@@ -3,7 +3,7 @@ use Rattle.mds_request.specs.Request.{request_of}
 use Rattle.mds_desk.specs.Desk.{state_of}
 use Rattle.server_state.proofs.Turns.{desk_runs}
 use Rattle.std.proofs.Common.{refl}
-use Rattle.server_state.proofs.TurnLists.{run_added, run_listed}
+use Rattle.server_state.proofs.ListedTurns.{run_added, run_listed}
 use Rattle.server_state.proofs.locks.HallDesk.answer_all.Goals as goal
 
 pub returns-clause-replies : goal.returns-clause-replies

@@ -3,7 +3,7 @@ use Rattle.mds_request.specs.Request.{request_of}
 use Rattle.mds_desk.specs.Desk.{state_of}
 use Rattle.server_state.proofs.Turns.{desk_replies}
 use Rattle.std.proofs.Common.{refl}
-use Rattle.server_state.proofs.TurnLists.{none_lost, turn_listed}
+use Rattle.server_state.proofs.ListedTurns.{none_lost, turn_listed}
 use Rattle.server_state.proofs.locks.HallDesk.answer_request.Goals as goal
 
 pub returns-clause-replies : goal.returns-clause-replies

@@ -6,7 +6,7 @@ use Rattle.mds_desk.specs.Desk.{state_of}
 use Rattle.server_state.specs.WholeRequest.{request_heard}
 use Rattle.server_state.proofs.Turns.{desk_replies}
 use Rattle.mds_request.specs.Request.{request_of}
-use Rattle.server_state.proofs.TurnLists.{none_lost, turn_listed}
+use Rattle.server_state.proofs.ListedTurns.{none_lost, turn_listed}
 use Rattle.server_state.proofs.locks.HallDesk.carry_out.Goals as goal
 
 pub take_call_turn-reply-requires-clause-resolved : goal.take_call_turn-reply-requires-clause-resolved

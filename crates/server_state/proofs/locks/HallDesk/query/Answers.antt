@@ -1,7 +1,7 @@
 use Rattle.std.specs.Prelude.{option_copied}
 use Rattle.mds_desk.specs.Desk.{state_of}
 use Rattle.server_state.proofs.Turns.{desk_tells}
-use Rattle.server_state.proofs.TurnLists.{look_listed}
+use Rattle.server_state.proofs.ListedTurns.{look_listed}
 use Rattle.server_state.proofs.locks.HallDesk.query.Goals as goal
 
 pub returns-clause-tells : goal.returns-clause-tells

@@ -29,7 +29,7 @@ items_more (ran requests replies ∷ events) more = ap (λ (items : List TurnIte
 items_more (learnt list ∷ events) more = items_more events more
 
 -- the call by which a desk learns a note
-told_events : Option (List Publication) → List Event
+abbrev told_events : Option (List Publication) → List Event
 told_events None = []
 told_events (Some list) = learnt list ∷ []
 
