@@ -10,6 +10,8 @@ use Rattle.mds_desk.proofs.Routing.{routes_send, routes_sync}
 use Rattle.mds_request.proofs.config.Config.TheSendSync as config
 use Rattle.mds_snapshot.proofs.note.Note.TheSendSync as note
 use Rattle.server_state.specs.declared.hall_name.HallName.{Ghosts as Names}
+use Rattle.server_state.proofs.turn_list.TurnList.TheSendSync as list
+use Rattle.server_state.proofs.turn_list.DeskTurns.TheSendSync as turns
 use Rattle.server_state.specs.contracts.locks.HallDesk as HallDesk
 use Rattle.server_state.specs.contracts.locks.DeskLock as DeskLock
 use Rattle.server_state.specs.contracts.locks.HallRoom as HallRoom
@@ -19,7 +21,8 @@ module _ (K : RattleType) (n : Names K.Denot) (g : Ghosts K.Denot) where
   desk_crosses : IsSend (HallDesk.the_row K n g)
   desk_crosses =
       let d = desk_send K g in
-      declared_send (HallDesk.the_type K n g) (search (sendable, crosses) depth 20, (search (sendable, crosses) depth 20, (search (sendable, crosses) depth 20, tt)))
+      let t = list.the_send K n g in
+      declared_send (HallDesk.the_type K n g) (search (sendable, crosses) depth 20, (search (sendable, crosses) depth 20, (search (sendable, crosses) depth 20, (search (sendable, crosses) depth 20, (search (sendable, crosses) depth 20, tt)))))
 
   room_crosses : IsSend (HallRoom.the_row K n g)
   room_crosses =
@@ -29,12 +32,14 @@ module _ (K : RattleType) (n : Names K.Denot) (g : Ghosts K.Denot) where
   lock_send : IsSend (DeskLock.the_row K n g)
   lock_send =
       let d = desk_crosses in
-      declared_send (DeskLock.the_type K n g) (search (sendable, crosses) depth 20, (search (sendable, crosses) depth 20, tt))
+      let t = turns.the_send K n g in
+      declared_send (DeskLock.the_type K n g) (search (sendable, crosses) depth 20, (search (sendable, crosses) depth 20, (search (sendable, crosses) depth 20, tt)))
 
   lock_sync : IsSync (DeskLock.the_row K n g)
   lock_sync =
       let d = desk_crosses in
-      declared_sync (DeskLock.the_type K n g) (search (sendable, crosses) depth 20, (search (sendable, crosses) depth 20, tt))
+      let t = turns.the_sync K n g in
+      declared_sync (DeskLock.the_type K n g) (search (sendable, crosses) depth 20, (search (sendable, crosses) depth 20, (search (sendable, crosses) depth 20, tt)))
 
   pub hall_send : IsSend (Hall.the_row K n g)
   hall_send =
