@@ -4,10 +4,9 @@ use cli_client::{
     request_text,
 };
 use http1::framing::Framing;
-use std::alloc::Global;
 use std::cell::Cell;
 use std::io::{self, Read, Write};
-use std::process::Abort;
+use std::test::Fail;
 
 /// A response of 503 that closes its connection.
 const UNAVAILABLE_RESPONSE: &[u8] =
@@ -131,111 +130,104 @@ const TEST_REQUEST: ClientRequest<'static> = ClientRequest {
     body: b"",
 };
 
-/// Checks that this is no whole response, and why.
-fn expect_fault(rt: &impl Abort, alloc: Global, said: &'static [u8], fault: ResponseFault) {
-    let mut client = Client::new(FixedDialer(said), TEST_SERVER);
-    match client.ask(alloc, &TEST_REQUEST) {
-        Err(found) => assert!(rt; found == fault && !found.words().is_empty()),
-        Ok(_) => assert!(rt; false),
-    }
-}
-
 #[test]
-fn takes_no_reply_that_is_not_whole(rt: HostRuntime) {
+fn takes_no_reply_that_is_not_whole(rt: HostRuntime) -> Result<(), Fail> {
     for (said, fault) in FAULTS {
-        expect_fault(&rt, rt.alloc(), said, *fault);
+        let mut client = Client::new(FixedDialer(said), TEST_SERVER);
+        match client.ask(rt.alloc(), &TEST_REQUEST) {
+            Err(found) => assert!(rt; found == *fault && !found.words().is_empty()),
+            Ok(_) => assert!(rt; false),
+        }
     }
-}
-
-/// Asks, and checks that the reply is `all`.
-fn expect_all(rt: &impl Abort, alloc: Global, client: &mut Client<'_, FixedDialer>) {
-    match client.ask(alloc, &TEST_REQUEST) {
-        Ok(reply) => assert!(rt; reply.body.as_slice() == b"all".as_slice()),
-        Err(_) => assert!(rt; false),
-    }
+    Ok(())
 }
 
 #[test]
-fn reads_chunks(rt: HostRuntime) {
+fn reads_chunks(rt: HostRuntime) -> Result<(), Fail> {
     let mut client = Client::new(FixedDialer(CHUNKS), TEST_SERVER);
-    expect_all(&rt, rt.alloc(), &mut client);
-    expect_all(&rt, rt.alloc(), &mut client);
+    for _ in 0..2 {
+        match client.ask(rt.alloc(), &TEST_REQUEST) {
+            Ok(reply) => assert!(rt; reply.body.as_slice() == b"all".as_slice()),
+            Err(_) => assert!(rt; false),
+        }
+    }
+    Ok(())
 }
 
 /// Whether a response that was received up to the end of its connection has this body, or this fault.
-fn is_body(alloc: Global, said: &[u8], wanted: Result<&[u8], ResponseFault>) -> bool {
+fn is_body(rt: &HostRuntime, said: &[u8], wanted: Result<&[u8], ResponseFault>) -> bool {
     let HeadProgress::Whole(head) = parse_head(said) else {
         return false;
     };
     let bytes = said.get(head.len..).unwrap_or_default();
-    match (body_of(alloc, &head, bytes), wanted) {
+    match (body_of(rt.alloc(), &head, bytes), wanted) {
         (Ok(body), Ok(wanted)) => body.as_slice() == wanted,
         (Err(found), Err(wanted)) => found == wanted,
         _ => false,
     }
 }
 
-/// Responses that were received up to the end of their connections, each with its body or its fault.
-const BODIES: &[(&[u8], Result<&[u8], ResponseFault>)] = &[
-    (
-        b"HTTP/1.1 200 OK\r\ncontent-length: 2\r\n\r\n{} ",
-        Ok(b"{}"),
-    ),
-    (b"HTTP/1.0 200 OK\r\n\r\n{} ", Ok(b"{} ")),
-    (b"HTTP/1.1 204 \r\n\r\n", Ok(b"")),
-    (
-        b"HTTP/1.1 200 OK\r\ncontent-length: x\r\n\r\n{}",
-        Err(ResponseFault::InvalidLength),
-    ),
-    (
-        b"HTTP/1.1 200 OK\r\ncontent-length: 3\r\n\r\n{}",
-        Err(ResponseFault::Incomplete),
-    ),
-    (
-        b"HTTP/1.1 200 OK\r\ntransfer-encoding: chunked\r\n\r\n0\r\n\r\n",
-        Err(ResponseFault::UnknownCoding),
-    ),
-];
-
 #[test]
-fn reads_bodies_that_have_come(rt: HostRuntime) {
-    for (said, wanted) in BODIES {
-        assert!(rt; is_body(rt.alloc(), said, *wanted));
-    }
+fn reads_bodies_that_have_come(rt: HostRuntime) -> Result<(), Fail> {
+    assert!(rt;
+        is_body(
+            &rt,
+            b"HTTP/1.1 200 OK\r\ncontent-length: 2\r\n\r\n{} ",
+            Ok(b"{}")
+        )
+    );
+    assert!(rt; is_body(&rt, b"HTTP/1.0 200 OK\r\n\r\n{} ", Ok(b"{} ")));
+    assert!(rt; is_body(&rt, b"HTTP/1.1 204 \r\n\r\n", Ok(b"")));
+    let fault = ResponseFault::InvalidLength;
+    assert!(rt;
+        is_body(
+            &rt,
+            b"HTTP/1.1 200 OK\r\ncontent-length: x\r\n\r\n{}",
+            Err(fault)
+        )
+    );
+    let fault = ResponseFault::Incomplete;
+    assert!(rt;
+        is_body(
+            &rt,
+            b"HTTP/1.1 200 OK\r\ncontent-length: 3\r\n\r\n{}",
+            Err(fault)
+        )
+    );
+    let fault = ResponseFault::UnknownCoding;
+    let said = b"HTTP/1.1 200 OK\r\ntransfer-encoding: chunked\r\n\r\n0\r\n\r\n";
+    assert!(rt; is_body(&rt, said, Err(fault)));
+    Ok(())
 }
 
-/// A request with a body.
-const PUT_REQUEST: ClientRequest<'static> = ClientRequest {
-    method: "PUT",
-    target: "/drafts/policies/1",
-    body: b"{}",
-};
-
 #[test]
-fn asks_again(rt: HostRuntime) {
+fn asks_again(rt: HostRuntime) -> Result<(), Fail> {
+    let call = ClientRequest {
+        method: "PUT",
+        target: "/drafts/policies/1",
+        body: b"{}",
+    };
     let mut client = Client::new(RetryDialer(Cell::new(0)), TEST_SERVER);
-    match client.ask(rt.alloc(), &PUT_REQUEST) {
+    match client.ask(rt.alloc(), &call) {
         Ok(reply) => {
             assert!(rt; reply.status == 200 && reply.body.as_slice() == b"all".as_slice());
         }
         Err(_) => assert!(rt; false),
     }
+    Ok(())
 }
 
-/// A request without a body, and its text.
-const DELETE_REQUEST: ClientRequest<'static> = ClientRequest {
-    method: "DELETE",
-    target: "/fleet/vehicles/1",
-    body: b"",
-};
-
-const DELETE_TEXT: &[u8] =
-    b"DELETE /fleet/vehicles/1 HTTP/1.1\r\nhost: here\r\nauthorization: Bearer city\r\ncontent-length: 0\r\n\r\n";
-
 #[test]
-fn writes_and_reads_heads(rt: HostRuntime) {
-    let text = request_text(rt.alloc(), &TEST_SERVER, &DELETE_REQUEST).expect(&rt, "a text");
-    assert!(rt; text.as_slice() == DELETE_TEXT);
+fn writes_and_reads_heads(rt: HostRuntime) -> Result<(), Fail> {
+    let call = ClientRequest {
+        method: "DELETE",
+        target: "/fleet/vehicles/1",
+        body: b"",
+    };
+    let text = request_text(rt.alloc(), &TEST_SERVER, &call)?;
+    let wanted =
+        b"DELETE /fleet/vehicles/1 HTTP/1.1\r\nhost: here\r\nauthorization: Bearer city\r\ncontent-length: 0\r\n\r\n";
+    assert!(rt; text.as_slice() == wanted.as_slice());
     match parse_head(UNAVAILABLE_RESPONSE) {
         HeadProgress::Whole(head) => {
             assert!(rt;
@@ -246,4 +238,5 @@ fn writes_and_reads_heads(rt: HostRuntime) {
     }
     assert!(rt; matches!(parse_head(b"HTTP/1.1 2"), HeadProgress::Partial));
     assert!(rt; matches!(parse_head(b"no head at all"), HeadProgress::Broken));
+    Ok(())
 }

@@ -10,7 +10,6 @@ use mds_match::Zone;
 use mds_text::{Id, Moment};
 use mds_verdict::Status;
 use std::alloc::{AllocError, Global};
-use std::process::Abort;
 
 /// New York: clocks are set back on 1 November 2026 at 02:00.
 const NEW_YORK: &str = "EST5EDT,M3.2.0,M11.1.0";
@@ -46,30 +45,28 @@ fn sample(hour: i64, status: Status, measure: u64) -> Option<RuleSample> {
     })
 }
 
-/// A sample of the rule: how many hours after midnight, the status and the measure.
-type Hour = (i64, Status, u64);
+/// Appends a sample of the rule, so many hours after midnight.
+fn push_sample(
+    all: &mut Vec<RuleSample>,
+    hour: i64,
+    status: Status,
+    measure: u64,
+) -> Result<(), AllocError> {
+    if let Some(sample) = sample(hour, status, measure) {
+        all.push(sample)?;
+    }
+    Ok(())
+}
 
 /// A sample on the evening before, and five of a night that has 01:00 twice.
-const NIGHT: &[Hour] = &[
-    (-1, Status::Violated, 5),
-    (0, Status::Ok, 2),
-    (1, Status::Violated, 7),
-    (2, Status::Violated, 9),
-    (3, Status::Inactive, 0),
-    (4, Status::Violated, 8),
-];
-
-/// One sample, at 01:00.
-const AT_ONE: &[Hour] = &[(1, Status::Violated, 7)];
-
-/// The samples of these hours.
-fn samples(alloc: Global, hours: &[Hour]) -> Result<Vec<RuleSample>, AllocError> {
+fn samples(alloc: Global) -> Result<Vec<RuleSample>, AllocError> {
     let mut all = Vec::new(alloc);
-    for (hour, status, measure) in hours {
-        if let Some(sample) = sample(*hour, *status, *measure) {
-            all.push(sample)?;
-        }
-    }
+    push_sample(&mut all, -1, Status::Violated, 5)?;
+    push_sample(&mut all, 0, Status::Ok, 2)?;
+    push_sample(&mut all, 1, Status::Violated, 7)?;
+    push_sample(&mut all, 2, Status::Violated, 9)?;
+    push_sample(&mut all, 3, Status::Inactive, 0)?;
+    push_sample(&mut all, 4, Status::Violated, 8)?;
     Ok(all)
 }
 
@@ -95,18 +92,13 @@ fn head(span: ReportSpan) -> ReportHead<'static> {
 }
 
 /// Whether a text has this part.
-fn has_part(text: &[u8], part: &str) -> bool {
+pub(crate) fn has_part(text: &[u8], part: &str) -> bool {
     for start in 0..text.len() {
         if text[start..].starts_with(part.as_bytes()) {
             return true;
         }
     }
     false
-}
-
-/// Checks that a text has this part.
-pub(crate) fn expect_part(rt: &impl Abort, text: &[u8], part: &str) {
-    assert!(rt; has_part(text, part));
 }
 
 /// An operator with this name and these samples.
@@ -127,7 +119,8 @@ pub(crate) fn operator<'a>(
 fn verdict_row(alloc: Global, name: &[u8]) -> Result<Vec<u8>, AllocError> {
     let mut row = Vec::new(alloc);
     let catalogue = Catalogue::with_room(alloc)?;
-    let samples = samples(alloc, AT_ONE)?;
+    let mut samples = Vec::new(alloc);
+    push_sample(&mut samples, 1, Status::Violated, 7)?;
     if let (Ok(zone), Some(operator)) = (
         Zone::read(NEW_YORK),
         operator(name, &samples, &catalogue),
@@ -141,7 +134,7 @@ fn verdict_row(alloc: Global, name: &[u8]) -> Result<Vec<u8>, AllocError> {
 fn summary_rows(alloc: Global) -> Result<Vec<u8>, AllocError> {
     let mut rows = Vec::new(alloc);
     let catalogue = Catalogue::with_room(alloc)?;
-    let samples = samples(alloc, NIGHT)?;
+    let samples = samples(alloc)?;
     if let (Ok(zone), Some(operator)) = (
         Zone::read(NEW_YORK),
         operator(b"Scoot", &samples, &catalogue),
@@ -155,7 +148,7 @@ fn summary_rows(alloc: Global) -> Result<Vec<u8>, AllocError> {
 fn push_section(out: &mut Vec<u8>, zone: &Zone, span: ReportSpan) -> Result<(), AllocError> {
     let alloc = *out.allocator();
     let catalogue = Catalogue::with_room(alloc)?;
-    let samples = samples(alloc, NIGHT)?;
+    let samples = samples(alloc)?;
     if let Some(operator) = operator(b"<script>", &samples, &catalogue) {
         push_page_operator(alloc, out, zone, span, &operator)?;
     }
@@ -186,97 +179,107 @@ fn push_name_cell(out: &mut Vec<u8>, name: &[u8]) -> Result<(), AllocError> {
     Ok(())
 }
 
-/// Checks the cell that an operator's name has.
-fn expect_cell(rt: &impl Abort, alloc: Global, name: &[u8], wanted: &[u8]) {
-    let mut out = Vec::new(alloc);
-    push_name_cell(&mut out, name).expect(rt, "memory");
-    assert!(rt; out.as_slice() == wanted);
-}
-
 // RFC 4180, section 2, rules 6 and 7.
 #[test]
-fn cells_of_csv(rt: HostRuntime) {
-    expect_cell(&rt, rt.alloc(), b"aaa", b"aaa");
-    expect_cell(&rt, rt.alloc(), b"b \r\nbb", b"\"b \r\nbb\"");
-    expect_cell(&rt, rt.alloc(), b"b\"bb", b"\"b\"\"bb\"");
+fn cells_of_csv(rt: HostRuntime) -> Result<(), AllocError> {
+    let mut out = Vec::new(rt.alloc());
+    push_name_cell(&mut out, b"aaa")?;
+    out.push(b',')?;
+    push_name_cell(&mut out, b"b \r\nbb")?;
+    out.push(b',')?;
+    push_name_cell(&mut out, b"b\"bb")?;
+    assert!(rt; out.as_slice() == b"aaa,\"b \r\nbb\",\"b\"\"bb\"".as_slice());
+    Ok(())
 }
 
 #[test]
-fn formulas_are_texts(rt: HostRuntime) {
-    expect_cell(&rt, rt.alloc(), b"=1+1", b"'=1+1");
-    expect_cell(&rt, rt.alloc(), b"\t,", b"\"'\t,\"");
-    expect_cell(&rt, rt.alloc(), b"1-1", b"1-1");
-}
-
-/// Checks that the header of a file has this part.
-fn expect_header(rt: &impl Abort, header: Result<Vec<u8>, AllocError>, part: &str) {
-    expect_part(rt, &header.expect(rt, "memory"), part);
-}
-
-/// Checks that the rows of a file are these.
-fn expect_rows(
-    rt: &impl Abort,
-    rows: Result<Vec<u8>, AllocError>,
-    wanted: Result<String, AllocError>,
-) {
-    let rows = rows.expect(rt, "memory");
-    assert!(rt; rows.as_slice() == wanted.expect(rt, "memory").as_bytes());
+fn formulas_are_texts(rt: HostRuntime) -> Result<(), AllocError> {
+    let mut out = Vec::new(rt.alloc());
+    push_name_cell(&mut out, b"=1+1")?;
+    push_name_cell(&mut out, b"\t,")?;
+    push_name_cell(&mut out, b"1-1")?;
+    assert!(rt; out.as_slice() == b"'=1+1\"'\t,\"1-1".as_slice());
+    Ok(())
 }
 
 #[test]
-fn a_night_of_verdicts(rt: HostRuntime) {
+fn a_night_of_verdicts(rt: HostRuntime) -> Result<(), AllocError> {
     let alloc = rt.alloc();
-    let part = ",status,measure,minimum,maximum,units\r\n";
-    expect_header(&rt, verdicts_header(alloc), part);
+    let header = verdicts_header(alloc)?;
+    assert!(rt; has_part(&header, ",status,measure,minimum,maximum,units\r\n"));
+    let out = verdict_row(alloc, b"=cmd, \"x\"")?;
     let row = format!(in alloc;
         "2026-11-01T05:00:00Z,2026-11-01T01:00:00-04:00,{OPERATOR},\"'=cmd, \"\"x\"\"\",{RULE}violated,7,,,\r\n"
-    );
-    expect_rows(&rt, verdict_row(alloc, b"=cmd, \"x\""), row);
+    )?;
+    assert!(rt; out.as_slice() == row.as_bytes());
+    Ok(())
 }
 
-/// The rows of the night of an operator, in short.
-fn night_rows(alloc: Global) -> Result<String, AllocError> {
+#[test]
+fn a_night_in_short(rt: HostRuntime) -> Result<(), AllocError> {
+    let alloc = rt.alloc();
+    let header = summary_header(alloc)?;
+    assert!(rt; has_part(&header, ",day,samples,violated,longest,"));
+    let out = summary_rows(alloc)?;
     let evening = "2026-10-31T23:00:00-04:00";
     let one = "2026-11-01T01:00:00-04:00";
     let again = "2026-11-01T01:00:00-05:00";
     let three = "2026-11-01T03:00:00-05:00";
-    format!(in alloc;
-        "{OPERATOR},Scoot,{RULE}2026-10-31,1,1,1,{evening},{evening},{evening},{evening},5,5\r\n\
-        {OPERATOR},Scoot,{RULE}2026-11-01,5,3,2,{one},{again},{one},{three},9,2\r\n"
-    )
+    let first = format!(in alloc;
+        "{OPERATOR},Scoot,{RULE}2026-10-31,1,1,1,{evening},{evening},{evening},{evening},5,5\r\n"
+    )?;
+    let second = format!(in alloc;
+        "{OPERATOR},Scoot,{RULE}2026-11-01,5,3,2,{one},{again},{one},{three},9,2\r\n"
+    )?;
+    let mut rows = first;
+    rows.push_str(second.as_str())?;
+    assert!(rt; out.as_slice() == rows.as_bytes());
+    Ok(())
 }
 
 #[test]
-fn a_night_in_short(rt: HostRuntime) {
-    let alloc = rt.alloc();
-    expect_header(&rt, summary_header(alloc), ",day,samples,violated,longest,");
-    expect_rows(&rt, summary_rows(alloc), night_rows(alloc));
-}
-
-/// Parts of the page of the night.
-const PARTS: &[&str] = &[
-    "<th>First sample</th><td>2026-10-31T23:00:00-04:00</td>",
-    "<th>Last sample</th><td>2026-11-01T03:00:00-05:00</td>",
-    "<th>Sampled every</th><td>60 minutes</td>",
-    "<th>City</th><td>Rules for shared vehicles (no city is named: the configuration has no page.title)</td>",
-    "<h2>&lt;script&gt; <small>",
-    // The rule has no name.
-    "<h3>Rule 1 <small>33333333-3333-4333-8333-333333333333</small></h3>",
-    "</small>, rule 1. Violated in 4 of",
-    // Two samples at 01:00, as that hour is shown twice: by the clock from 01:00 to 02:00.
-    "height=\"12\" x=\"60\" width=\"60\"/>",
-    // It was closed in one of six.
-    "Violated in 4 of 5 samples in which it was open (6 in all).</p>",
-    "</svg></td><td>3 of 4</td>",
-];
-
-#[test]
-fn a_night_on_the_page(rt: HostRuntime) {
+fn a_night_on_the_page(rt: HostRuntime) -> Result<(), AllocError> {
     let first = Moment::new(1_793_502_000_000).expect(&rt, "a moment");
     let last = Moment::new(1_793_520_000_000).expect(&rt, "a moment");
-    let out = page(rt.alloc(), first, last).expect(&rt, "memory");
-    for part in PARTS {
-        expect_part(&rt, &out, part);
-    }
+    let out = page(rt.alloc(), first, last)?;
+    assert!(rt;
+        has_part(
+            &out,
+            "<th>First sample</th><td>2026-10-31T23:00:00-04:00</td>"
+        )
+    );
+    assert!(rt;
+        has_part(
+            &out,
+            "<th>Last sample</th><td>2026-11-01T03:00:00-05:00</td>"
+        )
+    );
+    assert!(rt; has_part(&out, "<th>Sampled every</th><td>60 minutes</td>"));
+    assert!(rt;
+        has_part(
+            &out,
+            "<th>City</th><td>Rules for shared vehicles (no city is named: the configuration has no page.title)</td>"
+        )
+    );
+    assert!(rt; has_part(&out, "<h2>&lt;script&gt; <small>"));
     assert!(rt; !has_part(&out, "<script"));
+    // The rule has no name.
+    assert!(rt;
+        has_part(
+            &out,
+            "<h3>Rule 1 <small>33333333-3333-4333-8333-333333333333</small></h3>"
+        )
+    );
+    assert!(rt; has_part(&out, "</small>, rule 1. Violated in 4 of"));
+    // Two samples at 01:00, as that hour is shown twice: by the clock from 01:00 to 02:00.
+    assert!(rt; has_part(&out, "height=\"12\" x=\"60\" width=\"60\"/>"));
+    // It was closed in one of six.
+    assert!(rt;
+        has_part(
+            &out,
+            "Violated in 4 of 5 samples in which it was open (6 in all).</p>"
+        )
+    );
+    assert!(rt; has_part(&out, "</svg></td><td>3 of 4</td>"));
+    Ok(())
 }

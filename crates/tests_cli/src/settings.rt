@@ -1,7 +1,7 @@
 //! Tests of what a configuration says of the page.
 use server_settings::{PageFault, content_policy, page_fault, page_title, settings_text};
-use std::alloc::Global;
-use std::process::Abort;
+use std::alloc::{AllocError, Global};
+use std::test::Fail;
 
 /// Addresses of map tiles.
 const ADDRESSES: &[&str] = &[
@@ -71,67 +71,64 @@ const FAULTS: &[(&str, Option<PageFault>)] = &[
     ),
 ];
 
-/// Checks what is wrong with a page.
-fn expect_fault(rt: &impl Abort, alloc: Global, text: &str, wanted: Option<PageFault>) {
-    let found = page_fault(alloc, text.as_bytes()).expect(rt, "memory");
-    assert!(rt; found == wanted, "{text}");
-}
-
-/// Checks what is wrong with the page whose map tiles are at this address.
-fn expect_tiles(rt: &impl Abort, alloc: Global, address: &str, wanted: Option<PageFault>) {
-    let text = format!(in alloc; "{{\"page\":{{\"tiles\":\"{address}\"}}}}");
-    expect_fault(rt, alloc, text.expect(rt, "memory").as_str(), wanted);
+/// What is wrong with the page whose map tiles are at this address.
+fn tiles_fault(alloc: Global, address: &str) -> Result<Option<PageFault>, AllocError> {
+    let text = format!(in alloc; "{{\"page\":{{\"tiles\":\"{address}\"}}}}")?;
+    page_fault(alloc, text.as_bytes())
 }
 
 #[test]
-fn tells_addresses_from_other_texts(rt: HostRuntime) {
+fn tells_addresses_from_other_texts(rt: HostRuntime) -> Result<(), Fail> {
     for address in ADDRESSES {
-        expect_tiles(&rt, rt.alloc(), address, None);
+        assert!(rt; tiles_fault(rt.alloc(), address)? == None, "{address}");
     }
     for text in OTHERS {
-        expect_tiles(&rt, rt.alloc(), text, Some(PageFault::Tiles));
+        assert!(rt;
+            tiles_fault(rt.alloc(), text)? == Some(PageFault::Tiles),
+            "{text}"
+        );
     }
+    Ok(())
 }
 
 #[test]
-fn reads_a_page(rt: HostRuntime) {
-    let told = settings_text(rt.alloc(), PAGE.as_bytes()).expect(&rt, "memory");
-    assert!(rt; told.expect(&rt, "a page").as_slice() == SETTINGS.as_bytes());
-    let none = settings_text(rt.alloc(), b"{\"page\":null}").expect(&rt, "memory");
-    assert!(rt; none.is_none());
-}
-
-/// Checks that a text gives the page no title.
-fn expect_no_title(rt: &impl Abort, alloc: Global, text: &str) {
-    let title = page_title(alloc, text.as_bytes()).expect(rt, "memory");
-    assert!(rt; title.is_none(), "{text}");
+fn reads_a_page(rt: HostRuntime) -> Result<(), Fail> {
+    let told = settings_text(rt.alloc(), PAGE.as_bytes())?.expect(&rt, "a page");
+    assert!(rt; told.as_slice() == SETTINGS.as_bytes());
+    assert!(rt; settings_text(rt.alloc(), b"{\"page\":null}")?.is_none());
+    Ok(())
 }
 
 #[test]
-fn reads_a_title(rt: HostRuntime) {
+fn reads_a_title(rt: HostRuntime) -> Result<(), Fail> {
     let text = r#"{"page":{"title":"Zürich","attribution":"City"}}"#;
-    let title = page_title(rt.alloc(), text.as_bytes()).expect(&rt, "memory");
-    assert!(rt; title.expect(&rt, "a title").as_str() == "Zürich");
+    let title = page_title(rt.alloc(), text.as_bytes())?.expect(&rt, "a title");
+    assert!(rt; title.as_str() == "Zürich");
     for text in UNTITLED {
-        expect_no_title(&rt, rt.alloc(), text);
+        assert!(rt;
+            page_title(rt.alloc(), text.as_bytes())?.is_none(),
+            "{text}"
+        );
     }
-}
-
-/// Checks the content policy of a page.
-fn expect_policy(rt: &impl Abort, alloc: Global, text: &str, wanted: &str) {
-    let policy = content_policy(alloc, text.as_bytes()).expect(rt, "memory");
-    assert!(rt; policy.as_slice() == wanted.as_bytes());
+    Ok(())
 }
 
 #[test]
-fn names_the_origin_of_tiles(rt: HostRuntime) {
-    expect_policy(&rt, rt.alloc(), "{}", NO_TILES);
-    expect_policy(&rt, rt.alloc(), PAGE, TILES);
+fn names_the_origin_of_tiles(rt: HostRuntime) -> Result<(), Fail> {
+    let policy = content_policy(rt.alloc(), b"{}")?;
+    assert!(rt; policy.as_slice() == NO_TILES.as_bytes());
+    let policy = content_policy(rt.alloc(), PAGE.as_bytes())?;
+    assert!(rt; policy.as_slice() == TILES.as_bytes());
+    Ok(())
 }
 
 #[test]
-fn names_what_is_wrong(rt: HostRuntime) {
+fn names_what_is_wrong(rt: HostRuntime) -> Result<(), Fail> {
     for (text, fault) in FAULTS {
-        expect_fault(&rt, rt.alloc(), text, *fault);
+        assert!(rt;
+            page_fault(rt.alloc(), text.as_bytes())? == *fault,
+            "{text}"
+        );
     }
+    Ok(())
 }

@@ -1,7 +1,7 @@
 //! Tests of the names of zones, and of the footers of their files.
 use cli_timezone::{ZoneFileFault, ZoneName, ZoneRule, rule_in, zone_message};
 use std::alloc::{AllocError, Global};
-use std::process::Abort;
+use std::test::Fail;
 
 /// A file of this version, with these bytes after its header, as a data block and a footer are.
 fn file_of(alloc: Global, version: u8, behind: &[u8]) -> Result<Vec<u8>, AllocError> {
@@ -15,128 +15,138 @@ fn file_of(alloc: Global, version: u8, behind: &[u8]) -> Result<Vec<u8>, AllocEr
     Ok(file)
 }
 
-/// The same, which is there.
-fn file(rt: &impl Abort, alloc: Global, version: u8, behind: &[u8]) -> Vec<u8> {
-    file_of(alloc, version, behind).expect(rt, "memory")
+/// Whether a text is read as a name.
+fn is_name(alloc: Global, text: &str) -> Result<bool, AllocError> {
+    Ok(ZoneName::read(alloc, text)?.is_some())
 }
 
-/// Checks whether a text is read as a name.
-fn expect_name(rt: &impl Abort, alloc: Global, text: &str, wanted: bool) {
-    let name = ZoneName::read(alloc, text).expect(rt, "memory");
-    assert!(rt; name.is_some() == wanted, "{text}");
-}
-
-/// Checks the rule of a file of this version, with these bytes after its header.
-fn expect_rule(rt: &impl Abort, alloc: Global, version: u8, behind: &[u8], wanted: &str) {
-    match rule_in(alloc, &file(rt, alloc, version, behind)) {
-        Ok(rule) => assert!(rt; rule.as_str() == wanted),
-        Err(_) => assert!(rt; false),
+/// Whether a file's rule is this.
+fn has_rule(alloc: Global, file: &[u8], wanted: &str) -> bool {
+    match rule_in(alloc, file) {
+        Ok(rule) => rule.as_str() == wanted,
+        Err(_) => false,
     }
 }
 
-/// Checks that bytes have no rule, for this reason.
-fn expect_fault(rt: &impl Abort, alloc: Global, bytes: &[u8], wanted: ZoneFileFault) {
-    match rule_in(alloc, bytes) {
-        Ok(_) => assert!(rt; false),
-        Err(fault) => assert!(rt; fault == wanted),
-    }
-}
-
-/// Checks the same of a file of this version, with these bytes after its header.
-fn expect_file_fault(
-    rt: &impl Abort,
-    alloc: Global,
-    version: u8,
-    behind: &[u8],
-    wanted: ZoneFileFault,
-) {
-    expect_fault(rt, alloc, &file(rt, alloc, version, behind), wanted);
-}
-
-/// Names of zones.
-const NAMES: &[&str] = &[
-    "America/New_York",
-    "Etc/GMT+5",
-    "UTC",
-    "America/Port-au-Prince",
-    "America/Argentina/Ushuaia",
-];
-
-#[test]
-fn takes_names(rt: HostRuntime) {
-    for name in NAMES {
-        expect_name(&rt, rt.alloc(), name, true);
-    }
-}
-
-/// Texts that are no names.
-const OTHERS: &[&str] = &[
-    "",
-    "/etc/passwd",
-    "..",
-    "../passwd",
-    "America/../UTC",
-    "America//New_York",
-    "America/",
-    "a.b",
-    "é",
-    "a b",
-    "+05:00",
-];
-
-#[test]
-fn takes_no_other_text(rt: HostRuntime) {
-    for text in OTHERS {
-        expect_name(&rt, rt.alloc(), text, false);
+/// Whether a file has no rule, for this reason.
+fn has_fault(alloc: Global, file: &[u8], wanted: ZoneFileFault) -> bool {
+    match rule_in(alloc, file) {
+        Ok(_) => false,
+        Err(fault) => fault == wanted,
     }
 }
 
 #[test]
-fn reads_the_footer(rt: HostRuntime) {
+fn takes_names(rt: HostRuntime) -> Result<(), Fail> {
     let alloc = rt.alloc();
-    let rule = "EST5EDT,M3.2.0,M11.1.0";
-    expect_rule(&rt, alloc, b'2', b"\nEST5EDT,M3.2.0,M11.1.0\n", rule);
+    for name in [
+        "America/New_York",
+        "Etc/GMT+5",
+        "UTC",
+        "America/Port-au-Prince",
+        "America/Argentina/Ushuaia",
+    ] {
+        assert!(rt; is_name(alloc, name)?, "{name}");
+    }
+    Ok(())
+}
+
+#[test]
+fn takes_no_other_text(rt: HostRuntime) -> Result<(), Fail> {
+    let alloc = rt.alloc();
+    for text in [
+        "",
+        "/etc/passwd",
+        "..",
+        "../passwd",
+        "America/../UTC",
+        "America//New_York",
+        "America/",
+        "a.b",
+        "é",
+        "a b",
+        "+05:00",
+    ] {
+        assert!(rt; !is_name(alloc, text)?, "{text}");
+    }
+    Ok(())
+}
+
+#[test]
+fn reads_the_footer(rt: HostRuntime) -> Result<(), Fail> {
+    let alloc = rt.alloc();
+    let plain = file_of(alloc, b'2', b"\nEST5EDT,M3.2.0,M11.1.0\n")?;
+    assert!(rt; has_rule(alloc, &plain, "EST5EDT,M3.2.0,M11.1.0"));
     // A data block may have line feeds.
-    let block = b"\x0a\x00\n5\n\n<-03>3<-02>,M3.5.0/-2,M10.5.0/-1\n";
-    let rule = "<-03>3<-02>,M3.5.0/-2,M10.5.0/-1";
-    expect_rule(&rt, alloc, b'3', block, rule);
+    let block = file_of(
+        alloc,
+        b'3',
+        b"\x0a\x00\n5\n\n<-03>3<-02>,M3.5.0/-2,M10.5.0/-1\n",
+    )?;
+    assert!(rt; has_rule(alloc, &block, "<-03>3<-02>,M3.5.0/-2,M10.5.0/-1"));
+    Ok(())
 }
 
 #[test]
-fn says_why_there_is_no_rule(rt: HostRuntime) {
+fn says_why_there_is_no_rule(rt: HostRuntime) -> Result<(), Fail> {
     let alloc = rt.alloc();
-    let plain = b"# tzdb data\nEST5EDT\n";
-    expect_fault(&rt, alloc, plain, ZoneFileFault::NoTzif);
-    expect_fault(&rt, alloc, b"TZif2", ZoneFileFault::NoTzif);
-    expect_file_fault(&rt, alloc, 0, b"\nUTC0\n", ZoneFileFault::FirstVersion);
-    expect_file_fault(&rt, alloc, b'2', b"\nUTC0", ZoneFileFault::NoFooter);
-    expect_file_fault(&rt, alloc, b'2', b"UTC0\n", ZoneFileFault::NoFooter);
-    expect_file_fault(&rt, alloc, b'2', b"\n\n", ZoneFileFault::NoRule);
-    expect_file_fault(&rt, alloc, b'2', b"\n\xff\n", ZoneFileFault::NoText);
-    expect_file_fault(&rt, alloc, b'2', b"\nU\"\n", ZoneFileFault::NoText);
+    assert!(rt; has_fault(alloc, b"# tzdb data\nEST5EDT\n", ZoneFileFault::NoTzif));
+    assert!(rt; has_fault(alloc, b"TZif2", ZoneFileFault::NoTzif));
+    assert!(rt;
+        has_fault(
+            alloc,
+            &file_of(alloc, 0, b"\nUTC0\n")?,
+            ZoneFileFault::FirstVersion
+        )
+    );
+    assert!(rt;
+        has_fault(
+            alloc,
+            &file_of(alloc, b'2', b"\nUTC0")?,
+            ZoneFileFault::NoFooter
+        )
+    );
+    assert!(rt;
+        has_fault(
+            alloc,
+            &file_of(alloc, b'2', b"UTC0\n")?,
+            ZoneFileFault::NoFooter
+        )
+    );
+    assert!(rt;
+        has_fault(
+            alloc,
+            &file_of(alloc, b'2', b"\n\n")?,
+            ZoneFileFault::NoRule
+        )
+    );
+    assert!(rt;
+        has_fault(
+            alloc,
+            &file_of(alloc, b'2', b"\n\xff\n")?,
+            ZoneFileFault::NoText
+        )
+    );
+    assert!(rt;
+        has_fault(
+            alloc,
+            &file_of(alloc, b'2', b"\nU\"\n")?,
+            ZoneFileFault::NoText
+        )
+    );
+    Ok(())
 }
 
-/// What is said of the rule of New York.
-const TOLD: &str =
-    "zone America/New_York is EST5EDT,M3.2.0,M11.1.0 by /usr/share/zoneinfo/America/New_York";
-
-/// The name of New York, and its rule.
-fn new_york(alloc: Global) -> Result<(ZoneName, ZoneRule), AllocError> {
+#[test]
+fn tells_the_rule_of_a_name(rt: HostRuntime) -> Result<(), Fail> {
+    let alloc = rt.alloc();
     let name = ZoneName::read(alloc, "America/New_York")?.ok_or(AllocError)?;
     let rule = ZoneRule::read(alloc, "EST5EDT,M3.2.0,M11.1.0")?.ok_or(AllocError)?;
-    Ok((name, rule))
-}
-
-/// Checks what is said of a name's rule.
-fn expect_message(rt: &impl Abort, alloc: Global, zone: &(ZoneName, ZoneRule), wanted: &str) {
-    let told = zone_message(alloc, &zone.0, &zone.1).expect(rt, "memory");
+    let told = zone_message(alloc, &name, &rule)?;
+    let wanted =
+        "zone America/New_York is EST5EDT,M3.2.0,M11.1.0 by /usr/share/zoneinfo/America/New_York";
     assert!(rt; told.as_str() == wanted);
-}
-
-#[test]
-fn tells_the_rule_of_a_name(rt: HostRuntime) {
-    let zone = new_york(rt.alloc()).expect(&rt, "a zone");
-    expect_message(&rt, rt.alloc(), &zone, TOLD);
-    let fault = format!(in rt.alloc(); "{}", ZoneFileFault::FirstVersion).expect(&rt, "memory");
+    let fault = format!(in alloc; "{}", ZoneFileFault::FirstVersion)?;
     assert!(rt; fault.as_str() == "is a TZif file of version 1, which has no footer");
+    Ok(())
 }
