@@ -13,6 +13,7 @@ mod places;
 mod policy_index;
 mod print;
 mod published;
+mod sharing;
 
 pub use batch::Batch;
 pub use catalogue::{Catalogue, MOST_GEOGRAPHIES, MOST_POLICIES, MOST_PUBLICATIONS};

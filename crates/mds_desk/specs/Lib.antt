@@ -1,3 +1,4 @@
+pub mod Sharing
 pub mod Desk
 pub mod Laws
 pub mod Room

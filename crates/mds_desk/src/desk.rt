@@ -11,7 +11,7 @@ ghost use Rattle.mds_world.specs.Lasting.{fits_prop, lasting_in};
 use crate::answer::SharedReply;
 use crate::context::DeskContext;
 use crate::gate::Gate;
-use crate::operator::answer_call;
+use crate::operator::answer_at;
 use crate::query::DeskQuery;
 use core::mem::replace_with;
 use mds_catalog::Catalogue;
@@ -230,11 +230,11 @@ impl<K: OpeningName> Desk<K> {
         match pane.look() {
             Ok(look) => {
                 gate.held();
-                let answer = answer_call(&context, &mut book, &look, call, request, evaluator);
+                let (pane, answer) = answer_at(&context, &mut book, look, call, request, evaluator);
                 let desk = Desk {
                     context,
                     book,
-                    pane: look.leave(),
+                    pane,
                 };
                 (desk, answer)
             }

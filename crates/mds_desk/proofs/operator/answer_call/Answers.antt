@@ -3,7 +3,6 @@ use Rattle.mds_catalog.specs.Catalogue.{publications_of}
 use Rattle.mds_fleet.specs.Fleet.{Fits}
 use Rattle.mds_request.specs.Configuration.{configuration}
 use Rattle.mds_request.specs.Request.{request_of}
-use Rattle.mds_request.specs.declared.config.Config.{Config}
 use Rattle.mds_machine.specs.Answer.{Gives}
 use Rattle.mds_machine.specs.Operator.{operator_does}
 use Rattle.mds_desk.specs.CacheKey.{AnswersOperator, IsFound, IsReplyTo}
@@ -24,8 +23,8 @@ returns-in-Some g c =
       fits = c.requires.fits;
     }
 
-pub indexed_operator_step-reply-requires-clause-fits : goal.indexed_operator_step-reply-requires-clause-fits
-indexed_operator_step-reply-requires-clause-fits g c =
+pub step-reply-requires-clause-fits : goal.step-reply-requires-clause-fits
+step-reply-requires-clause-fits g c =
     subst (λ ps. Fits (lasting_in ps) c.args.book.now) (sym c.catalogue-catalogue.ensures.publications) c.requires.fits
 
 pub answer-requires : goal.answer-requires
@@ -36,12 +35,10 @@ answer-requires g c =
     let place = c.args.context.now.place in
     let rows = c.args.book.now.rows in
     let request = request_of c.args.request.now in
-    let reply = c.indexed_operator_step-reply.result in
-    let after = c.indexed_operator_step-reply.new.book.rows in
-    let same : c.deref.result.now ≡ c.args.context.now.config.value = cc in
+    let reply = c.step-reply.result in
+    let after = c.step-reply.new.book.rows in
     let made : IfSome (slice_get configured.operators place) (λ o. Gives (Unit {0}) rows (operator_does configured.zone o (publications_of c.catalogue-catalogue.result.now) rows call request) reply after) =
-    subst (λ (config : Config). IfSome (slice_get (configuration config).operators place) (λ o. Gives (Unit {0}) rows (operator_does (configuration config).zone o (publications_of c.catalogue-catalogue.result.now) rows call request) reply after)) same
-    c.indexed_operator_step-reply.ensures.answer in
+    c.step-reply.ensures.answer in
     let gives : IfSome (slice_get configured.operators place) (λ o. Gives (Unit {0}) rows (operator_does configured.zone o c.args.look.now rows call request) reply after) =
     subst (λ ps. IfSome (slice_get configured.operators place) (λ o. Gives (Unit {0}) rows (operator_does configured.zone o ps rows call request) reply after)) c.catalogue-catalogue.ensures.publications made in
     subst (λ ps. IfSome asked (λ key. IsReplyTo ps key reply)) (sym c.note-note.ensures)
@@ -56,17 +53,15 @@ returns g c =
     let place = c.args.context.now.place in
     let rows = c.args.book.now.rows in
     let request = request_of c.args.request.now in
-    let reply = c.indexed_operator_step-reply.result in
-    let after = c.indexed_operator_step-reply.new.book.rows in
-    let same : c.deref.result.now ≡ c.args.context.now.config.value = cc in
+    let reply = c.step-reply.result in
+    let after = c.step-reply.new.book.rows in
     let made : IfSome (slice_get configured.operators place) (λ o. Gives (Unit {0}) rows (operator_does configured.zone o (publications_of c.catalogue-catalogue.result.now) rows call request) reply after) =
-    subst (λ (config : Config). IfSome (slice_get (configuration config).operators place) (λ o. Gives (Unit {0}) rows (operator_does (configuration config).zone o (publications_of c.catalogue-catalogue.result.now) rows call request) reply after)) same
-    c.indexed_operator_step-reply.ensures.answer in
+    c.step-reply.ensures.answer in
     let gives : IfSome (slice_get configured.operators place) (λ o. Gives (Unit {0}) rows (operator_does configured.zone o c.args.look.now rows call request) reply after) =
     subst (λ ps. IfSome (slice_get configured.operators place) (λ o. Gives (Unit {0}) rows (operator_does configured.zone o ps rows call request) reply after)) c.catalogue-catalogue.ensures.publications made in
     record {
       answer = operator_laid configured.zone c.args.look.now c.operator.result call rows request (slice_get configured.operators place) asked reply c.answer.result after c.operator.ensures
           (subst (λ ps. IfSome asked (AnswersOperator ps c.operator.result call)) c.catalogue-catalogue.ensures.publications c.operator_key-asked.ensures) gives c.answer.ensures;
-      limit = c.indexed_operator_step-reply.ensures.limit;
-      fits = subst (λ ps. Fits (lasting_in ps) c.indexed_operator_step-reply.new.book) c.catalogue-catalogue.ensures.publications c.indexed_operator_step-reply.ensures.fits;
+      limit = c.step-reply.ensures.limit;
+      fits = subst (λ ps. Fits (lasting_in ps) c.step-reply.new.book) c.catalogue-catalogue.ensures.publications c.step-reply.ensures.fits;
     }
