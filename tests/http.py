@@ -254,8 +254,20 @@ def what_makes_questions_long(server):
             yield link.answer()
 
 
+def two_publications(server, first):
+    """Publishes two places, each by itself, and gives what is answered. A publication writes where those read that took a snapshot before
+    the one before it, so the second of two waits for whoever holds one meanwhile."""
+    ring = "[[0,0],[1,0],[1,1],[0,1],[0,0]]"
+    for number in (first, first + 1):
+        name = identifier(1, number)
+        text = f'{{"geography_id":"{name}","name":"g","geography_json":{{"type":"Polygon","coordinates":[{ring}]}}}}'
+        yield server.ask("PUT", f"/drafts/geographies/{name}", AUTHOR, text.encode())
+        yield server.ask("POST", "/publish", AUTHOR, json.dumps({"geographies": [name], "policies": []}).encode())
+
+
 def long_questions(server):
-    """While an operator asks what takes long, on one connection or on more than there are threads, others are answered."""
+    """While an operator asks what takes long, on one connection or on more than there are threads, others are answered, and the author
+    publishes."""
     for answer in what_makes_questions_long(server):
         if answer.status != 200:
             yield f"what makes questions long is answered {answer}"
@@ -275,6 +287,12 @@ def long_questions(server):
                 waited.append(time.monotonic() - asked)
                 if answer.status != status:
                     yield f"{token} is answered {answer}"
+            asked = time.monotonic()
+            for answer in two_publications(server, 100 + 2 * number):
+                waited.append(time.monotonic() - asked)
+                asked = time.monotonic()
+                if answer.status != 200:
+                    yield f"the author is answered {answer}"
             answers = [link.answer() for link in links]
             took = time.monotonic() - begun
         yield from (f"a long question is answered {it}" for it in answers if it.status != 200 or b'"ok"' not in it.body)
