@@ -26,7 +26,7 @@ behind : (v : Json) (vs : List Json) → join_with_byte 44 (map printed (v ∷ v
 behind v [] = sym (append-nil (printed v))
 behind v (w ∷ vs) = ap (λ rest. printed v ++ 44 ∷ rest) (behind w vs)
 
-joined : (vs : List Json) → join_with_byte 44 (map printed vs) ≡ printed_items false (items_of vs)
+pub joined : (vs : List Json) → join_with_byte 44 (map printed vs) ≡ printed_items false (items_of vs)
 joined [] = refl
 joined (v ∷ vs) = behind v vs
 

@@ -8,3 +8,4 @@ mod Places
 mod Replies
 mod Running
 mod Settled
+mod Vehicles

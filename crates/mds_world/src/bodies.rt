@@ -1,5 +1,7 @@
 //! The replies of successes: bodies of JSON.
-ghost use Rattle.std.specs.Prelude.{◌≡◌, ◌^◌, ◌<◌, ◌≤◌, [], length, IfOk, IsTrue, map, vec_capacity};
+ghost use Rattle.std.specs.Prelude.{◌≡◌, ◌^◌, ◌<◌, ◌≤◌, ◌++◌, [], length, IfOk, OnOk, IsTrue, map, vec_capacity};
+ghost use Rattle.std.specs.List.{join_with_byte};
+ghost use Rattle.mds_text.specs.Printed.{printed};
 ghost use Rattle.mds_text.specs.View.{view};
 ghost use Rattle.mds_match.specs.Row.{row_of};
 ghost use Rattle.mds_request.specs.Reply.{is_line, success};
@@ -19,6 +21,9 @@ const REPORT_VERSION: i64 = 2;
 
 /// The most bytes of a body that is written into memory allocated before.
 const SHORT_BODY: usize = 24;
+
+/// The bytes that are allocated for a vehicle in a list of vehicles, which most take less of. A longer list grows.
+const VEHICLE_ROOM: usize = 320;
 
 /// Allocates memory for a short body, so that the body can be written after a change.
 pub(crate) fn body_buffer(alloc: Global) -> Result<Vec<u8>, AllocError>
@@ -178,15 +183,41 @@ fn vehicle_tree(alloc: Global, vehicle: &Vehicle) -> Result<Tree, AllocError>
     Ok(object_tree(members))
 }
 
-/// An operator's vehicles: `{"vehicles":[..]}`.
+/// Appends a vehicle as its operator sees it, printed.
+fn push_vehicle(alloc: Global, body: &mut Vec<u8>, vehicle: &Vehicle) -> Result<(), AllocError>
+    ensures { OnOk result (body.new.items ≡ body.old.items ++ printed (vehicle_json (row_of vehicle.now))) }
+{
+    let text = print_tree(alloc, &vehicle_tree(alloc, vehicle)?)?;
+    body.extend_from_slice(&text)
+}
+
+/// Appends vehicles, each printed by itself, separated by commas.
+fn push_vehicles(alloc: Global, body: &mut Vec<u8>, vehicles: &[&Vehicle]) -> Result<(), AllocError>
+    ensures { OnOk result (body.new.items
+        ≡ body.old.items ++ join_with_byte 44 (map (λ v. printed (vehicle_json (row_of v.now))) vehicles.now)) }
+{
+    let Some((first, rest)) = vehicles.split_first() else {
+        return Ok(());
+    };
+    push_vehicle(alloc, body, first)?;
+    for vehicle in rest {
+        body.push(b',')?;
+        push_vehicle(alloc, body, vehicle)?;
+    }
+    Ok(())
+}
+
+/// An operator's vehicles: `{"vehicles":[..]}`. There is a tree of one of them at a time, and none of all.
 pub(crate) fn vehicles_reply(alloc: Global, vehicles: &[&Vehicle]) -> Result<Reply, AllocError>
     ensures { IfOk result (λ r. r ≡ told (vehicles_json (map (λ v. row_of v.now) vehicles.now))) }
 {
-    let mut trees = Vec::with_capacity(alloc, vehicles.len())?;
-    for vehicle in vehicles {
-        trees.push(vehicle_tree(alloc, vehicle)?)?;
-    }
-    let mut members = Vec::new(alloc);
-    add_member(&mut members, "vehicles", list_tree(trees))?;
-    json_reply(alloc, &object_tree(members))
+    let room = vehicles
+        .len()
+        .saturating_mul(VEHICLE_ROOM)
+        .saturating_add(SHORT_BODY);
+    let mut body = Vec::with_capacity(alloc, room)?;
+    body.extend_from_slice(b"{\"vehicles\":[")?;
+    push_vehicles(alloc, &mut body, vehicles)?;
+    body.extend_from_slice(b"]}")?;
+    Ok(Reply::ok(body))
 }
