@@ -381,11 +381,14 @@ function ruleWarnings(rule, kinds) {
   const has = (member, value) => kinds.some((it) => it[member] === value);
   const low = rule.minimum ?? null, high = rule.maximum ?? null;
   const types = (Array.isArray(rule.vehicle_types) ? rule.vehicle_types : []).filter((it) => !has("type", it));
-  const states = Object.keys(rule.states || {}).filter((it) => !has("state", it) && !STATES.includes(it));
+  const states = Object.keys(rule.states || {}).filter((it) => !has("state", it));
+  const strange = (list, known) => list.filter((it) => !known.includes(it));
+  const absent = (list, known) => (kinds.length ? list.filter((it) => known.includes(it)) : []);
   return [
-    ...types.filter((it) => !TYPES.includes(it)).map((it) => `“${it}” is no vehicle type of MDS, and no vehicle is known to be one`),
-    ...types.filter((it) => TYPES.includes(it) && kinds.length).map((it) => `no vehicle is a “${it}” now`),
-    ...states.map((it) => `“${it}” is no vehicle state of MDS, and no vehicle is known to be in it`),
+    ...strange(types, TYPES).map((it) => `“${it}” is no vehicle type of MDS, and no vehicle is known to be one`),
+    ...absent(types, TYPES).map((it) => `no vehicle is a “${it}” now`),
+    ...strange(states, STATES).map((it) => `“${it}” is no vehicle state of MDS, and no vehicle is known to be in it`),
+    ...absent(states, STATES).map((it) => `no vehicle is in the state “${it}” now`),
     ...(low === null && high === null ? ["it has no bound, so it is always kept"] : []),
     ...(low !== null && high !== null && low > high ? [`nothing is at least ${number(low)} and at most ${number(high)}`] : []),
   ].map((it) => `The rule “${rule.name}”: ${it}.`);

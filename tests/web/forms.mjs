@@ -60,6 +60,18 @@ async function ticking(page, city, { is }) {
   is("the focus goes to what opened the form", await page.run(() => document.activeElement.id), "write");
 }
 
+/** A type and a state of MDS that no vehicle has now are asked about before a policy is saved. */
+async function asked(page, { is }) {
+  await page.click("#write");
+  await fillForm(page, "policyform", { name: "Of none", maximum: 3, where: ["Downtown"], types: ["bus", "scooter standing"], states: ["available", "missing"] });
+  await page.run(() => document.getElementById("policyform").requestSubmit());
+  await page.until(() => document.getElementById("ask").open);
+  is("a type and a state that no vehicle has are asked about", await page.text("#askbody li"),
+    "The rule “Of none”: no vehicle is a “bus” now. | The rule “Of none”: no vehicle is in the state “missing” now.");
+  await page.click("#askno");
+  await page.click("#policyform .cancel");
+}
+
 /** What an edit doesn't touch is sent as it was written: order, other forms of identifiers, null, unknown words and operators. */
 async function untouched(page, city, { is }) {
   const [place] = (await city.sure("city", "GET", "/geographies")).geographies, upper = place.geography_id.toUpperCase();
@@ -186,6 +198,7 @@ export default async function forms(browser, program, tally) {
   await page.signIn("city");
   await told(page, "#legend", /Scoot/);
   await ticking(page, city, tally);
+  await asked(page, tally);
   await untouched(page, city, tally);
   await staying(page, city, tally);
   await vehicle(page, city, tally);

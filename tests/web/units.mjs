@@ -281,6 +281,9 @@ is("a type and a state that are none", warned({ vehicle_types: ["scooter_stading
   "The rule “R”: “scooter_stading” is no vehicle type of MDS, and no vehicle is known to be one. "
   + "The rule “R”: “availabel” is no vehicle state of MDS, and no vehicle is known to be in it.");
 is("a type that no vehicle has now", warned({ vehicle_types: ["bus", "scooter"] }, kinds), "The rule “R”: no vehicle is a “bus” now.");
+is("states that no vehicle is in now", warned({ states: { missing: [], available: [], reserved: ["located"] } }, kinds),
+  "The rule “R”: no vehicle is in the state “missing” now. The rule “R”: no vehicle is in the state “reserved” now.");
+is("states of MDS where no vehicle is known", warned({ vehicle_types: ["bus"], states: { missing: [] } }), "");
 is("a type and a state of a vehicle alone", warned({ vehicle_types: ["own"], states: { odd: [] } }, [{ type: "own", state: "odd" }]), "");
 is("no bound", warned({ maximum: undefined }), "The rule “R”: it has no bound, so it is always kept.");
 is("bounds that exclude one another", warned({ minimum: 5, maximum: 3 }), "The rule “R”: nothing is at least 5 and at most 3.");
