@@ -5,8 +5,9 @@
 
 Checks that each relative link leads to a file or a folder that is there, and each anchor to a heading, by the anchors that GitHub gives
 headings; that the documents with a limit have no more words than that, as `wc -w` counts them, ARCHITECTURE without the table that
-tests/crates.py writes; that no cell of a table in CLAIMS has more than 40 words; and that no document names a path of one machine or an
-issue by its number. Prints what fails; last 'N passed, M failed', and ends with 1 where one failed.
+tests/crates.py writes; that no cell of a table in CLAIMS has more than 40 words; that each function of a walk in WALKS stands in the file
+that is named there; and that no document names a path of one machine or an issue by its number. Prints what fails; last 'N passed, M
+failed', and ends with 1 where one failed.
 """
 import re
 import sys
@@ -18,6 +19,8 @@ ROOT = Path(__file__).resolve().parent.parent
 MOST_WORDS = {"README.md": 900, "docs/ARCHITECTURE.md": 2_000, "docs/CONTRIBUTING.md": 1_200, "docs/CLAIMS.md": 3_000}
 GENERATED = {"docs/ARCHITECTURE.md"}  # a table between two lines that begin with '<!-- crates' doesn't count
 MOST_WORDS_OF_CELL = {"docs/CLAIMS.md": 40}
+WALKS = "docs/audit/WALKS.md"
+STEP = re.compile(r"\| `([a-z_]+)/([\w/]+\.rt)` \| (.+?) \|")  # a row of a walk: its crate, its file and the functions in it
 # What no document says, and what it is.
 UNSAID = {
     "a path of one machine": re.compile(r"(?<![\w.])/(?:work|tmp|home|root|Users|opt/rattle)/[\w.-]*"),
@@ -151,6 +154,25 @@ def cells(document):
             yield f"{name}:{number}: a cell of {most} words, at most {limit}" if most > limit else None
 
 
+def stands(function, source):
+    """Whether a source has a function, given as `name` or `Type::name`."""
+    kind, _, name = function.rpartition("::")
+    return bool(re.search(rf"\bfn {name}\b", source)) and (not kind or bool(re.search(rf"\b{kind}\b", source)))
+
+
+def walks(document):
+    """For each row of a walk its functions that don't stand in its file, or None."""
+    if name_of(document) != WALKS:
+        return
+    for number, line in enumerate(text_of(document).split("\n"), 1):
+        row = STEP.match(line)
+        if row:
+            file = ROOT / "crates" / row[1] / "src" / row[2]
+            source = text_of(file) if file.is_file() else ""
+            missing = [it for it in re.findall(r"`([\w:]+)`", row[3]) if not stands(it, source)]
+            yield f"{WALKS}:{number}: not in {row[1]}/{row[2]}: {', '.join(missing)}" if missing else None
+
+
 def unsaid(document):
     """For each thing that no document says, where it is said first, or None."""
     text = text_of(document)
@@ -162,7 +184,7 @@ def unsaid(document):
 def main():
     passed = failed = 0
     for document in documents():
-        for check in (links, words, cells, unsaid):
+        for check in (links, words, cells, walks, unsaid):
             for fault in check(document):
                 if fault:
                     print(fault)
