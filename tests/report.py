@@ -8,9 +8,10 @@ supersede others, are withdrawn, begin and end, two operators that report, repea
 verdicts.csv is worked out here another way: into the script that `ruffletuff audit` prints a question for compliance is put at each
 moment, mds_replay answers, and the answer is read by Python. summary.csv is worked out a second time from verdicts.csv, and local times
 from the two nights. The marks of report.html, by how much and since when a rule is violated, and the order of rules are worked out from
-verdicts.csv and the documents. A thinned journal with the one before it says the same as the whole one. Names that a spreadsheet or a
-browser would take for more than names, operators that are many, journals that are refused, and reports that aren't written whole are tried
-too. Prints what differs, and last 'N passed, M failed'; ends with 1 where one failed.
+verdicts.csv and the documents. A thinned journal with the one before it, a copy of it or what `thin --archive` and `serve --archive` kept,
+says the same as the whole one. Names that a spreadsheet or a browser would take for more than names, operators that are many, journals
+that are refused, and reports that aren't written whole are tried too. Prints what differs, and last 'N passed, M failed'; ends with 1
+where one failed.
 """
 
 import argparse
@@ -35,7 +36,9 @@ import records
 from journals import REPLAY
 from kept import City, Tried, ended, replayed, split
 from report_page import DAY_LINE, MARK, OPEN, RULE, Page, bounds_of, counts_of, marks_of, minutes_are_told, page_faults, since_of, worst_of
-from wire import Closed, identifier
+from thinning import THINNED, archive_of
+from wire import SECONDS, Closed, identifier
+from wire import report as report_of
 
 AUTHOR, ALFA, BRAVO = "city", "alfa", "bravo"
 ALFA_ID, BRAVO_ID, FURTHER_ID = (identifier(9, it) for it in (0xA1, 0xB1, 0xC1))
@@ -453,6 +456,45 @@ def of_thinned_journals(made):
         yield from differing("a thinned journal", alone, list(wanted))
 
 
+def thin_while_served(city, archive):
+    """Serves a city until its journal was archived and a shorter one took its place, which it does behind reports: those are of now."""
+    file, until = os.stat(city.journal).st_ino, time.monotonic() + SECONDS
+    with city.serve("--thin-at", "1", "--archive", archive) as server:
+        while os.stat(city.journal).st_ino == file:
+            answer = server.ask("POST", "/fleet/events", ALFA, report_of(1, time.time_ns() // 1_000_000))
+            if answer.status != 200 or time.monotonic() > until:
+                raise ValueError(f"a report is answered {answer}, and the journal isn't thinned")
+            time.sleep(0.05)
+        status, out, said = server.end()
+    if (status, out) != (0, b"") or not said or said.replace(THINNED, b""):
+        raise ValueError(f"the server ends with {status, out, said}")
+
+
+def of_an_archive(program, replay):
+    """The journals of an archive, one of which was thinned while its city was served, say with what is left in the folder what the whole
+    journal says, in any order, and also by themselves. What is left says less."""
+    with tempfile.TemporaryDirectory(prefix="report-") as room, tempfile.TemporaryDirectory(prefix="report-") as other:
+        made = Made(program, replay, room, "archive", SPRING)
+        cut, every = len(made.lines) // 2, ("--every", str(EVERY))
+        city = Journal(program, other, made.given, payloads(made.lines[:cut]))
+        archive = archive_of(city)
+        if (found := ended(program, "thin", city.folder, "--config", city.file, "--archive", archive))[0]:
+            yield f"thin ends with {found}"
+        texts = records.read(city.bytes()).texts
+        city.keep(records.written([*texts, *map(entry, made.lines[cut:])]))
+        thin_while_served(city, archive)
+        kept = sorted(os.path.join(archive, it) for it in os.listdir(archive))
+        if len(kept) < 2:
+            yield f"the archive has {kept}"
+        for folders in ([city.folder, *kept], [*reversed(kept), city.folder], kept):
+            found = city.reported(made.first, made.last, *every, folders=folders)
+            for name in NAMES:
+                if found[name] != made.whole[name]:
+                    yield f"{name} of {[os.path.basename(it) for it in folders]} isn't that of the whole journal"
+        if city.reported(made.first, made.last, *every)["verdicts.csv"] == made.whole["verdicts.csv"]:
+            yield "without its archive the folder says the same: nothing of it was thinned"
+
+
 def is_the_same_again(made):
     """The same journal says the same, byte for byte, and isn't changed."""
     before = made.city.bytes()
@@ -797,6 +839,7 @@ OF_A_CITY = (
 FURTHER = (
     heads_are_told,
     nothing_is_told_of_what_is_to_come,
+    of_an_archive,
     hostile_names,
     operators_stand_in_order,
     arguments_are_refused,
