@@ -1,25 +1,31 @@
 #!/usr/bin/env python3
 """How operators stand, as the author and they themselves are told: starts ruffletuff, and asks for /app/compliance and /app/fleet.
 
-    oversight.py PROGRAM
+    oversight.py PROGRAM [--replay FILE]
 
 Expects what docs/HTTP.md gives: the author sees as much as the configuration's `oversight` says, and an operator its own always; each part
 of /app/compliance, and each operator's path, is what that operator is answered to its own GET /compliance and GET /fleet/vehicles, byte for
 byte but for the moment, which is the answer's; operators come in the configuration's order, with the names that are names; none of it
-leaves an entry in the journal or a sync. Under load, each part shows no less of an operator than was answered before it was asked for, and
-no more than was sent before it was answered; and the same requests have the same answers, whether the author asks all the time or not at
-all. Prints what is otherwise, and last 'N passed, M failed'; ends with 1 where one failed.
+leaves an entry in the journal or a sync. While operators report and the author publishes, each part is, byte for byte, what mds_replay
+answers that operator at the same moment behind some of the publications and of its reports: no less than were answered before the author
+asked, and no more than were sent before the answer came. And the same requests have the same answers, whether the author asks all the time
+or not at all, and from mds_replay. Prints what is otherwise, and last 'N passed, M failed'; ends with 1 where one failed.
 """
 
+import argparse
 import contextlib
+import itertools
 import json
+import os
 import re
 import sys
 import threading
+import time
 
 from app import expect, refused
-from clients import names, place, policy, succeed
-from kept import Alone, tried
+from clients import names, place, policy, succeed, these_policies
+from journals import REPLAY
+from kept import Alone, Tried, ended, line_of, replayed, split
 from wire import AUTHOR, FIRST, PATIENCE, SECOND, Link, identifier, report, request
 
 THIRD, ZONE = "charlie", "Z"
@@ -30,6 +36,8 @@ RING = "[[0,0],[9,0],[9,9],[0,9],[0,0]]"
 CAP = 1  # the policy, its geography and its rule
 MOST = 2  # vehicles, that the rule allows
 ROUNDS = 60 if PATIENCE == 1 else 15
+PUBLICATIONS = 6  # further ones, under load
+COMPARED = 150 if PATIENCE == 1 else 30  # of the author's answers under load, at most
 MOMENT = re.compile(rb'^\{"at":\d+,')
 
 
@@ -49,14 +57,18 @@ def rule():
     return f'[{{"rule_id":"{identifier(3, 1)}","name":"r","rule_type":"count","geographies":["{identifier(1, CAP)}"],"maximum":{MOST}}}]'
 
 
-def publish(server):
-    """A place, and a policy that allows two vehicles there, for all operators."""
-    asked = [
+def publication():
+    """The requests that publish a place, and a policy that allows two vehicles there, for all operators."""
+    return [
         ("PUT", f"/drafts/geographies/{identifier(1, CAP)}", place(CAP, RING)),
         ("PUT", f"/drafts/policies/{identifier(2, CAP)}", policy(CAP, rules=rule())),
         ("POST", "/publish", names(1, "geographies", [CAP])[:-1] + b"," + names(2, "policies", [CAP])[1:]),
     ]
-    expect(not list(succeed(server, AUTHOR, asked)), "the policy wasn't published")
+
+
+def publish(server):
+    """Publishes these."""
+    expect(not list(succeed(server, AUTHOR, publication())), "the policy wasn't published")
 
 
 def told(server, path, token):
@@ -191,62 +203,179 @@ class Asker(threading.Thread):
             raise ValueError(f"the author: {self.fault!r}")
 
 
-def under_load(program):
-    """While operators report, each part has all reports that were answered before, and none that wasn't sent yet."""
-    with Alone(program, configured("verdicts")) as server:
-        publish(server)
-        sent, answered = dict.fromkeys(TOKENS, 0), dict.fromkeys(TOKENS, 0)
+class Load:
+    """A city whose operators report, each over a connection of its own, while its author publishes and asks: how many reports of each
+    operator and how many publications were sent and answered, and what the author was told, each time with how many were answered before
+    and sent behind."""
 
-        def operate(operator):
-            with Link(server.port) as link:
-                for number in range(ROUNDS):
-                    sent[operator] = number + 1
-                    link.send(request("POST", "/fleet/events", TOKENS[operator], report(number)))
-                    expect(link.answer("POST").status == 200, "a report")
-                    answered[operator] = number + 1
+    def __init__(self, server):
+        self.server = server
+        self.sent, self.answered = ({it: 0 for it in (*TOKENS, AUTHOR)} for _ in range(2))
+        self.faults = []
 
-        with Asker(server, lambda: dict(answered), lambda: dict(sent)) as author:
-            threads = [threading.Thread(target=operate, args=(it,)) for it in TOKENS]
+    def send(self, link, who, token, *asked):
+        """Sends a request that counts, and waits for its success."""
+        self.sent[who] += 1
+        link.send(request(*asked[:2], token, asked[2]))
+        expect(link.answer(asked[0]).status == 200, f"{asked[:2]} of {token}")
+        self.answered[who] += 1
+
+    def operate(self, operator):
+        with Link(self.server.port) as link:
+            for number in range(ROUNDS):
+                self.send(link, operator, TOKENS[operator], "POST", "/fleet/events", report(number))
+
+    def publish(self, _):
+        """A further policy each time a part of the reports is through."""
+        with Link(self.server.port) as link:
+            for number in range(1, PUBLICATIONS + 1):
+                while not self.faults and self.answered[ALFA] < ROUNDS * number // (PUBLICATIONS + 1):
+                    time.sleep(0.001)
+                name = CAP + number
+                link.send(request("PUT", f"/drafts/policies/{identifier(2, name)}", AUTHOR, policy(name, rules=rule())))
+                expect(link.answer("PUT").status == 200, "a draft")
+                self.send(link, AUTHOR, AUTHOR, "POST", "/publish", these_policies(name))
+
+    def do(self, call, who):
+        try:
+            call(who)
+        except Exception as fault:  # pylint: disable=broad-except
+            self.faults.append(f"{who}: {fault!r}")
+
+    def told(self):
+        """All of it is done; what the author was told meanwhile."""
+        calls = [(self.operate, it) for it in TOKENS] + [(self.publish, AUTHOR)]
+        with Asker(self.server, lambda: dict(self.answered), lambda: dict(self.sent)) as author:
+            threads = [threading.Thread(target=self.do, args=it) for it in calls]
             for it in threads:
                 it.start()
             for it in threads:
                 it.join()
-        expect(answered == dict.fromkeys(TOKENS, ROUNDS), f"reports that were answered: {answered}")
-        seen = set()
-        for least, body, most in author.told:
-            for operator, _, text in parts(body):
-                count = measure(text)
-                expect(least[operator] <= count <= most[operator], f"{operator}: {least} {count} {most}")
-                seen.add(count)
-        expect(len(seen) > 2, f"the author saw no change: {seen}")
+        expect(not self.faults, f"under load: {self.faults}")
+        return author.told
+
+
+def script_of(server):
+    """What a served city was asked that its journal keeps: the configuration's line, and the lines of each client in their order."""
+    status, out, err = ended(server.program, "audit", server.folder, "--config", os.path.join(server.room, "city.json"))
+    expect((status, err) == (0, b""), f"audit ends with {status}: {err[:200]}")
+    first, *lines = out.decode().splitlines()
+    return first, {token: [it for it in lines if split(it)[1].startswith(f"{token} ")] for token in (AUTHOR, *TOKENS.values())}
+
+
+def published_by(lines, count):
+    """The author's lines up to its publication of this number, from 0 as none."""
+    ends = [0, *(number + 1 for number, it in enumerate(lines) if " POST /publish " in it)]
+    return lines[: ends[count]]
+
+
+def answered_by(replay, first, lines, publications, wanted):
+    """What mds_replay answers an operator behind so many publications, by the operator, the number of its reports before and the moment:
+    to each of the questions that are wanted, of an operator and a number of reports the moments."""
+    asked, places = published_by(lines[AUTHOR], publications), {}
+    for operator, token in TOKENS.items():
+        for number in range(ROUNDS + 1):
+            for at in sorted(wanted.get((operator, number), ())):
+                places[operator, number, at] = len(asked)
+                asked.append(f"{at} {line_of(token, 'GET', '/compliance')}")
+            asked.extend(lines[token][number : number + 1])
+    answers = replayed(replay, first, asked)
+    return {key: answers[place_].encode() for key, place_ in places.items()}
+
+
+def under_load(program, replay):
+    """While operators report and the author publishes, each part is what that operator is answered at that moment, behind as many reports
+    and publications as there may have been."""
+    with Alone(program, configured("verdicts")) as server:
+        publish(server)
+        told_all = Load(server).told()
+        first, lines = script_of(server)
+    picked = told_all[:: max(1, -(-len(told_all) // COMPARED))]
+    parts_told, wanted = [], {}
+    for least, body, most in picked:
+        for operator, _, text in parts(body):
+            at = json.loads(text)["at"]
+            ranges = (range(least[it], most[it] + 1) for it in (AUTHOR, operator))
+            places = list(itertools.product(*ranges))
+            parts_told.append((operator, at, places, text))
+            for number, count in places:
+                wanted.setdefault(number, {}).setdefault((operator, count), set()).add(at)
+    # One publication came before the load.
+    answers = {number: answered_by(replay, first, lines, number + 1, them) for number, them in wanted.items()}
+    seen = set()
+    for operator, at, places, text in parts_told:
+        right = [it for it in places if answers[it[0]][operator, it[1], at] == b"200 " + text]
+        expect(right, f"{operator} at {at} is told {text}, as behind none of {places[0]} to {places[-1]} publications and reports")
+        seen.add(right[0])
+    print(f"{len(parts_told)} parts of {len(picked)} answers, behind {len({it for it, _ in seen})} numbers of publications")
+    expect(len({it for _, it in seen}) > 2 and len({it for it, _ in seen}) > 1, f"the author saw no change: {seen}")
     yield from ()
 
 
-def answers(program, is_watched):
-    """What each operator is answered to the same requests, without moments, whether the author asks all the time or not."""
-    with Alone(program, configured("vehicles")) as server:
-        with Asker(server, dict, dict) if is_watched else contextlib.nullcontext():
-            found = dict.fromkeys(TOKENS, b"")
-            for step in range(ROUNDS // 2):
-                if step == ROUNDS // 4:
-                    publish(server)
-                for operator, token in TOKENS.items():
-                    with Link(server.port) as link:
-                        for method, path, body in (("POST", "/fleet/events", report(step % 7, 2000 + step)), ("GET", "/compliance", b""),
-                                                   ("DELETE", f"/fleet/vehicles/{identifier(4, step % 5)}", b""), ("GET", "/fleet/vehicles", b"")):
-                            link.send(request(method, path, token, body))
-                            answer = link.answer(method)
-                            found[operator] += b"%d %s\n" % (answer.status, MOMENT.sub(b"{", answer.body))
-        return found
+def asked_again():
+    """The same requests in the same order: of the author, who publishes once, and of each operator."""
+    for step in range(ROUNDS // 2):
+        if step == ROUNDS // 4:
+            yield from ((AUTHOR, *it) for it in publication())
+        for token in TOKENS.values():
+            yield token, "POST", "/fleet/events", report(step % 7, 2000 + step)
+            yield token, "GET", "/compliance", b""
+            yield token, "DELETE", f"/fleet/vehicles/{identifier(4, step % 5)}", b""
+            yield token, "GET", "/fleet/vehicles", b""
 
 
-def watched_or_not(program):
-    """Each operator's answers are the same, byte for byte but for the moments, whether the author asks all the time or not at all."""
-    watched, alone = answers(program, True), answers(program, False)
-    for operator in TOKENS:
-        expect(watched[operator] == alone[operator], f"{operator} is answered otherwise where the author asks")
+def in_lines(answered):
+    """What each operator is answered, a line for each status and body, without moments."""
+    found = dict.fromkeys(TOKENS.values(), b"")
+    for token, status, body in answered:
+        if token != AUTHOR:
+            found[token] += b"%d %s\n" % (status, MOMENT.sub(b"{", body))
+    return found
+
+
+def served(program, is_watched):
+    """What each operator is answered over HTTP, whether the author asks all the time or not."""
+    with Alone(program, configured("vehicles")) as server, contextlib.ExitStack() as stack:
+        if is_watched:
+            stack.enter_context(Asker(server, dict, dict))
+        links, answered = {it: stack.enter_context(Link(server.port)) for it in (AUTHOR, *TOKENS.values())}, []
+        for token, method, path, body in asked_again():
+            links[token].send(request(method, path, token, body))
+            answer = links[token].answer(method)
+            answered.append((token, answer.status, answer.body))
+        return in_lines(answered)
+
+
+def replayed_again(replay):
+    """What each operator is answered by mds_replay."""
+    at, asked = time.time_ns() // 1_000_000, list(asked_again())
+    lines = [f"{at} {line_of(token, method, path, body.decode())}" for token, method, path, body in asked]
+    answers = replayed(replay, configured("vehicles").decode(), lines)
+    found = [(it[0], *answer.encode().split(b" ", 1)) for it, answer in zip(asked, answers, strict=True)]
+    return in_lines((token, int(status), body) for token, status, body in found)
+
+
+def watched_or_not(program, replay):
+    """Each operator's answers are the same, byte for byte but for the moments, whether the author asks all the time or not at all, and those
+    of mds_replay."""
+    watched, alone, replayed_ = served(program, True), served(program, False), replayed_again(replay)
+    for token in TOKENS.values():
+        expect(watched[token] == alone[token], f"{token} is answered otherwise where the author asks")
+        expect(watched[token] == replayed_[token], f"{token} is answered otherwise by mds_replay")
     yield from ()
+
+
+def main():
+    parser = argparse.ArgumentParser(description=__doc__, formatter_class=argparse.RawDescriptionHelpFormatter)
+    parser.add_argument("program", help="the built ruffletuff")
+    parser.add_argument("--replay", default=REPLAY, help="the built mds_replay")
+    given = parser.parse_args()
+    program, replay = os.path.abspath(given.program), os.path.abspath(given.replay)
+    found = Tried()
+    for call, words in ((settings, ()), (own_answers, ()), (under_load, (replay,)), (watched_or_not, (replay,))):
+        found.one(call.__name__.replace("_", " "), call(program, *words))
+    return found.told()
 
 
 if __name__ == "__main__":
-    sys.exit(tried(__doc__, (settings, own_answers, under_load, watched_or_not)))
+    sys.exit(main())

@@ -148,7 +148,7 @@ def parts(room):
     add("what is synced, and when", 0.3, kept, lambda: script("syncs.py", keep, slow=slow["ruffletuff"]))
     add("each path, and what refusals take", 1.5, kept, lambda: script("routes.py", keep, "--told", slow=slow["ruffletuff"]))
     add("what people are told", 0.3, kept, lambda: script("app.py", keep, slow=slow["ruffletuff"]))
-    add("how operators stand", 0.3, kept, lambda: script("oversight.py", keep, slow=slow["ruffletuff"]))
+    add("how operators stand", 0.3, kept + replayed, lambda: script("oversight.py", keep, "--replay", replay, slow=slowly))
     past = ("past.py", keep, "--replay", replay, *PAST)
     add("moments of the past", 1, kept + replayed, lambda: script(*past, slow=slowly))
     add("files and a server", 0.5, kept, lambda: script("exchange.py", keep, slow=slow["ruffletuff"]))
