@@ -19,6 +19,7 @@ import re
 import resource
 import shutil
 import signal
+import socket
 import subprocess
 import sys
 import tempfile
@@ -713,6 +714,37 @@ def told_what_is_wrong(small):
             yield f"{words}: ends with {found}"
 
 
+def files_of(folder):
+    """The files of a folder, with their bytes and the times at which they were changed last."""
+    found = {}
+    for it in os.scandir(folder):
+        with open(it.path, "rb") as file:
+            found[it.name] = it.stat().st_mtime_ns, file.read()
+    return found
+
+
+def an_address_that_is_taken(small):
+    """Where another program listens at its address, or at that of its control port, that is told before the journal is looked at, and
+    nothing of the folder changes: also where the journal is damaged or torn, and a kill left a shorter one beside it."""
+    damaged = small.bytes[:200] + bytes([small.bytes[200] ^ 1]) + small.bytes[201:]
+    with small.copy() as city, socket.socket() as other:
+        other.bind(("127.0.0.1", 0))
+        other.listen()
+        address = f"127.0.0.1:{other.getsockname()[1]}"
+        shutil.copytree(small.city.folder, city.folder, dirs_exist_ok=True)
+        for name, bytes_ in (("whole", small.bytes), ("damaged", damaged), ("torn", small.bytes[:-5])):
+            for path, text in ((city.journal, bytes_), (os.path.join(city.folder, "journal.thinned"), b"what a kill left")):
+                with open(path, "wb") as file:
+                    file.write(text)
+            before = files_of(city.folder)
+            for words, said in (((address,), "listened to"), (("127.0.0.1:0", "--control", address), "listened to for control")):
+                found = ended(small.program, "serve", "--config", city.file, "--state", city.folder, "--listen", *words)
+                if found != (1, b"", f"ruffletuff: nothing can be {said}: {address}\n".encode()):
+                    yield f"{name}, at {words}: ends with {found}"
+                if (after := files_of(city.folder)) != before:
+                    yield f"{name}, at {words}: changes {[it for it in before | after if before.get(it) != after.get(it)]}"
+
+
 # --- Disks ---------------------------------------------------------------------------------------------------------
 
 
@@ -878,6 +910,7 @@ CASES = (
     copied_while_it_runs,
     parts_of_an_audit,
     told_what_is_wrong,
+    an_address_that_is_taken,
     a_full_disk,
     a_journal_that_can_not_be_written,
     a_disk_that_fails,
