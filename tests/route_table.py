@@ -27,7 +27,8 @@ Single = collections.namedtuple("Single", "method target who body cell")
 # The status of each code.
 STATUS = {
     "bad_body": 400, "too_large": 413, "token": 401, "no_route": 404, "method": 405, "role": 403, "bad_id": 400, "no_room": 503,
-    "bad_json": 400, "id_mismatch": 400, "empty": 400, "no_draft": 404, "not_found": 404, "bad_param": 400,
+    "bad_json": 400, "id_mismatch": 400, "empty": 400, "no_draft": 404, "not_found": 404, "bad_param": 400, "bad_number": 400,
+    "future": 409,
 }
 
 # What both programs answer: the table of the protocol.
@@ -48,11 +49,11 @@ PROTOCOL = """
     GET                                         not_found   not_found   token
     HEAD POST PUT DELETE OPTIONS PATCH          method      method      token
 
-/policies/x /policies/x?x=1 /policies/%78 /policies/{policy}0 /geographies/x /geographies/0 | GET
+/policies/x /policies/x?x=1 http://x/policies/x /policies/%78 /policies/{policy}0 /geographies/x /geographies/0 | GET
     GET                                         bad_id      bad_id      token
     HEAD POST PUT DELETE OPTIONS PATCH          method      method      token
 
-/geographies /geographies?x=1 http://x/geographies /geographies/{place} /geographies/{place}?x=1 | GET
+/geographies /geographies?x=1 http://x/geographies /geographies/{place} /geographies/{place}?x=1 http://x/geographies/{place} | GET
     GET                                         200         200         token
     HEAD POST PUT DELETE OPTIONS PATCH          method      method      token
 
@@ -72,7 +73,7 @@ PROTOCOL = """
     DELETE                                      role        not_found!  token
     GET HEAD POST PUT OPTIONS PATCH             method      method      token
 
-/fleet/vehicles/x /fleet/vehicles/x?x=1 | DELETE
+/fleet/vehicles/x /fleet/vehicles/x?x=1 http://x/fleet/vehicles/x | DELETE
     DELETE                                      role        bad_id      token
     GET HEAD POST PUT OPTIONS PATCH             method      method      token
 
@@ -84,7 +85,7 @@ PROTOCOL = """
     GET                                         role        not_found   token
     HEAD POST PUT DELETE OPTIONS PATCH          method      method      token
 
-/compliance/x /compliance/x?x=1 | GET
+/compliance/x /compliance/x?x=1 http://x/compliance/x | GET
     GET                                         role        bad_id      token
     HEAD POST PUT DELETE OPTIONS PATCH          method      method      token
 
@@ -98,7 +99,7 @@ PROTOCOL = """
     PUT DELETE                                  200!        role        token
     HEAD POST OPTIONS PATCH                     method      method      token
 
-/drafts/policies/x /drafts/policies/x?x=1 /drafts/geographies/x /drafts/geographies/x?x=1 | PUT, GET, DELETE
+/drafts/policies/x /drafts/policies/x?x=1 http://x/drafts/policies/x /drafts/geographies/x http://x/drafts/geographies/x?x=1 | PUT, GET, DELETE
     GET PUT DELETE                              bad_id      role        token
     HEAD POST OPTIONS PATCH                     method      method      token
 
@@ -134,37 +135,66 @@ NOWHERE = """
     GET HEAD POST PUT DELETE OPTIONS PATCH      no_route    no_route    token
 """
 
-# What ruffletuff alone answers, beside the routes.
+# What ruffletuff alone answers, beside the routes. With an `at` in its query a question about fleets is one about that moment: the city
+# has its journal from the beginning, so that it tells of each one that is over. 4102444799999 is the end of 2099.
 APP = """
-/app/whoami /app/whoami?x=1 http://x/app/whoami /app/withdrawals /app/withdrawals?x=1 | GET
+/app/whoami /app/whoami?x=1 http://x/app/whoami /app/withdrawals /app/withdrawals?at=x http://x/app/withdrawals | GET
     GET                                         200         200         token
     HEAD POST PUT DELETE OPTIONS PATCH          method      method      token
 
-/app/drafts /app/drafts?x=1 | GET
+/app/drafts /app/drafts?x=1 /app/drafts?at=x http://x/app/drafts | GET
     GET                                         200         role        token
     HEAD POST PUT DELETE OPTIONS PATCH          method      method      token
 
-/app/fleet/events /app/fleet/events?x=1 | POST
+/app/fleet/events /app/fleet/events?x=1 /app/fleet/events?at=x http://x/app/fleet/events | POST
     POST                                        role        200!        token
     GET HEAD PUT DELETE OPTIONS PATCH           method      method      token
 
-/app/compliance /app/compliance?x=1 http://x/app/compliance | GET
+/app/compliance /app/compliance?x=1 http://x/app/compliance /app/compliance?at=0 http://x/app/compliance?x=1&at=0 | GET
     GET                                         200         200         token
     HEAD POST PUT DELETE OPTIONS PATCH          method      method      token
 
-/app/fleet /app/fleet?x=1 | GET
+/app/compliance?at=x /app/compliance?at /app/compliance?at=1&at=1 http://x/app/compliance?at= | GET
+    GET                                         bad_number  bad_number  token
+    HEAD POST PUT DELETE OPTIONS PATCH          method      method      token
+
+/app/compliance?at=4102444799999 http://x/app/compliance?at=4102444799999 | GET
+    GET                                         future      future      token
+    HEAD POST PUT DELETE OPTIONS PATCH          method      method      token
+
+/app/fleet /app/fleet?x=1 http://x/app/fleet /app/fleet?at=0 http://x/app/fleet?at=0 | GET
     GET                                         role        200         token
+    HEAD POST PUT DELETE OPTIONS PATCH          method      method      token
+
+/app/fleet?at=x http://x/app/fleet?at=x | GET
+    GET                                         role        bad_number  token
+    HEAD POST PUT DELETE OPTIONS PATCH          method      method      token
+
+/app/fleet?at=4102444799999 | GET
+    GET                                         role        future      token
     HEAD POST PUT DELETE OPTIONS PATCH          method      method      token
 
 /app/compliance/{operator} /app/compliance/{other} /app/fleet/{operator} /app/fleet/{other} /app/fleet/{operator}?x=1 | GET
     GET                                         200         role        token
     HEAD POST PUT DELETE OPTIONS PATCH          method      method      token
 
-/app/compliance/{unknown} /app/fleet/{unknown} | GET
+http://x/app/compliance/{operator} http://x/app/fleet/{other} /app/compliance/{operator}?at=0 /app/fleet/{other}?at=0 | GET
+    GET                                         200         role        token
+    HEAD POST PUT DELETE OPTIONS PATCH          method      method      token
+
+/app/compliance/{other}?at=x /app/fleet/{operator}?at=x http://x/app/compliance/{operator}?at=x | GET
+    GET                                         bad_number  role        token
+    HEAD POST PUT DELETE OPTIONS PATCH          method      method      token
+
+/app/compliance/{other}?at=4102444799999 /app/fleet/{operator}?at=4102444799999 | GET
+    GET                                         future      role        token
+    HEAD POST PUT DELETE OPTIONS PATCH          method      method      token
+
+/app/compliance/{unknown} /app/fleet/{unknown} /app/compliance/{unknown}?at=0 /app/fleet/{unknown}?at=x http://x/app/fleet/{unknown} | GET
     GET                                         not_found   role        token
     HEAD POST PUT DELETE OPTIONS PATCH          method      method      token
 
-/app/compliance/x /app/compliance/{operator}0 /app/fleet/x /app/fleet/vehicles | GET
+/app/compliance/x /app/compliance/{operator}0 /app/fleet/x /app/fleet/vehicles /app/compliance/x?at=0 http://x/app/fleet/x?at=x | GET
     GET                                         bad_id      role        token
     HEAD POST PUT DELETE OPTIONS PATCH          method      method      token
 """

@@ -3,11 +3,11 @@
 
     routes.py PROGRAM [--told]
 
-The table of tests/route_table.py is worked out by hand from docs/PROTOCOL.md and docs/HTTP.md: of each path of the protocol, of /app, of
-the page, of /mds/2.0 and of nothing, by seven methods, what the author, an operator, a wrong access token and none are told. It is asked
-with room on the disk, where everyone is told what is published; of /mds/2.0 also where nobody is; and once more on a full disk, where what
-may change something alone says `no_room`; where no small disk may be mounted that is left out (packages.py). mds_serve has the paths of the
-protocol alone.
+The table of tests/route_table.py is worked out by hand from docs/PROTOCOL.md and docs/HTTP.md: of each path of the protocol, of /app, also
+with a moment of the past, of the page, of /mds/2.0 and of nothing, by seven methods, what the author, an operator, a wrong access token and
+none are told. It is asked with room on the disk, where everyone is told what is published; of /mds/2.0 also where nobody is; and once more
+on a full disk, where what may change something alone says `no_room`; where no small disk may be mounted that is left out (packages.py).
+mds_serve has the paths of the protocol alone.
 
 Then 200 refused requests of each kind are asked of ruffletuff: nothing is synced, kept or published by them, by what its control port
 counts; and a request that only reads isn't counted as a change.
