@@ -13,4 +13,5 @@ mod Runs
 mod Told
 mod Turns
 mod Unkept
+mod ViewReplies
 mod Ways

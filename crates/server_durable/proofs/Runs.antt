@@ -20,7 +20,7 @@ pub same_told : (d : DeskState) (note : Option (List Publication)) (told : DeskS
 same_told d None told is = record { configuration = ap (λ s. s.configuration) is; place = ap (λ s. s.place) is }
 same_told d (Some list) told learns = learns.same
 
-rows_told : (d : DeskState) (note : Option (List Publication)) (told : DeskState) → IsTold d note told → told.rows ≡ d.rows
+pub rows_told : (d : DeskState) (note : Option (List Publication)) (told : DeskState) → IsTold d note told → told.rows ≡ d.rows
 rows_told d None told is = ap (λ s. s.rows) is
 rows_told d (Some list) told learns = learns.rows
 

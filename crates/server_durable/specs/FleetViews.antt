@@ -1,7 +1,14 @@
 -- Views of an operator's fleet: what its own desk answers it. An operator sees its own, and the author each operator's,
 -- as far as the configuration's oversight goes.
-use Rattle.std.specs.Prelude.{◌≡◌, ◌⊎◌, ◌<◌, ℕ, suc, List, [], ◌∷◌, Bool, true, false, bytes_eq, codes, length, Option, Some, None, position, slice_get}
-use Rattle.mds_request.specs.Configuration.{Configuration, Operator}
+use Rattle.std.specs.Prelude.{◌≡◌, ◌⊎◌, ◌<◌, ℕ, suc, List, [], ◌∷◌, Bool, true, false, bytes_eq, codes, length, Option, Some, None, Ok, position, slice_get}
+use Rattle.std.specs.FinMap.{values}
+use Rattle.mds_catalog.specs.Publication.{Publication}
+use Rattle.mds_fleet.specs.Books.{Rows}
+use Rattle.mds_machine.specs.Answer.{told}
+use Rattle.mds_machine.specs.Bodies.{vehicles_json}
+use Rattle.mds_machine.specs.Desks.{IsUnavailable}
+use Rattle.mds_machine.specs.Operator.{compliance_reply}
+use Rattle.mds_request.specs.Configuration.{Configuration, Operator, read_configuration}
 use Rattle.mds_request.specs.Reply.{Reply, refused, success}
 use Rattle.mds_request.specs.Request.{Request}
 use Rattle.mds_request.specs.declared.code.Code.TheVariants.{NoMemory, NotFound, Role}
@@ -25,11 +32,22 @@ target_for Vehicles = codes "/fleet/vehicles"
 abbrev pub own_request : Operator → FleetView → ℕ → Request
 own_request operator view at = record { at = at; token = operator.token; verb = Get; target = target_for view; body = [] }
 
--- The reply is that of a turn of the desk of the operator at this place, on its own request for the view.
+-- The reply with a view of an operator's fleet at a moment: by the zone, the operator, the publications and its own rows,
+-- and by nothing else.
+abbrev pub view_reply : Configuration → Operator → FleetView → List Publication → Rows → ℕ → Reply
+view_reply configuration operator Compliance publications rows at = compliance_reply configuration.zone operator publications rows at
+view_reply configuration operator Vehicles publications rows at = told (vehicles_json (values rows))
+
+-- The reply is that of a turn of the desk of the operator at this place, on its own request for the view. The turn leaves
+-- the operator's rows as they were. In a configuration that was read, the reply is the one with the view, by these rows
+-- and the publications that the desk then knows; or it is 503.
 pub record IsOwnView (configuration : Configuration) (place : ℕ) (view : FleetView) (at : ℕ) (reply : Reply) : Type 0 where
   pub operator : Operator
   pub is_its : slice_get configuration.operators place ≡ Some operator
   pub turn : DeskReplies configuration place (own_request operator view at) reply
+  pub rows_stay : turn.after.rows ≡ turn.before.rows
+  pub tells : (text : List ℕ) → read_configuration text ≡ Ok configuration
+      → (reply ≡ view_reply configuration operator view turn.after.known turn.before.rows at) ⊎ IsUnavailable reply
 
 -- whether the author has such views
 abbrev pub covers : Oversight → FleetView → Bool

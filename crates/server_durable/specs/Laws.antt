@@ -12,6 +12,9 @@ use Rattle.server_state.specs.Turn.{DeskRuns}
 use Rattle.server_admission.specs.declared.arrival.Arrived.{Arrived}
 use Rattle.mds_request.specs.Call.{path_of}
 use Rattle.mds_desk.specs.Desk.{DeskState, TakesTurn}
+use Rattle.mds_machine.specs.Desks.{IsUnavailable}
+use Rattle.mds_machine.specs.Fronts.{Turn, continued, served_in}
+use Rattle.mds_machine.specs.OneHistory.{AreItsTurns}
 use Rattle.mds_request.specs.Configuration.{Configuration, Operator, actor_of, read_configuration}
 use Rattle.mds_request.specs.declared.config.Actor.TheVariants.{Operator as OperatorAt}
 use Rattle.mds_request.specs.Request.{Request, verb_of}
@@ -22,7 +25,7 @@ use Rattle.server_app.specs.Withdrawals.{withdrawal_of, withdrawals}
 use Rattle.mds_catalog.specs.Publication.{Publication, is_meant_for, published_policies}
 use Rattle.server_routes.specs.App.{app_at, app_of}
 use Rattle.server_durable.specs.DurableResponse.{Answers, IsCarriedOut}
-use Rattle.server_durable.specs.FleetViews.{own_request}
+use Rattle.server_durable.specs.FleetViews.{IsOwnView, own_request}
 use Rattle.server_durable.specs.Many.{AreCarriedOutBy, AreRefusedBehind, SaysAll, exchanges}
 use Rattle.server_durable.specs.Records.{HasRecord}
 use Rattle.server_durable.specs.People.{operator_told}
@@ -104,3 +107,32 @@ ViewsLeaveRows =
     (d next : DeskState) (operator : Operator) (view : FleetView) (at : ℕ) (reply : Reply)
     → slice_get d.configuration.operators d.place ≡ Some operator → TakesTurn d (own_request operator view at) reply next
     → next.rows ≡ d.rows
+
+-- both are the same, byte for byte, or one of them is 503
+abbrev pub AreSameOrUnavailable : Reply → Reply → Type 0
+AreSameOrUnavailable reply other = (reply ≡ other) ⊎ (IsUnavailable reply ⊎ IsUnavailable other)
+
+-- What is told of one operator depends on the publications and on its own rows alone: two views of it at one moment, at
+-- servers that have this operator and the zone alike, over equal rows and at equal publications, are the same, whoever
+-- the other operators are.
+abbrev pub ViewsAreByOwnRows : Type 0
+ViewsAreByOwnRows =
+    (text other_text : List ℕ) (configuration other_configuration : Configuration) (place other_place : ℕ) (view : FleetView) (at : ℕ) (reply other_reply : Reply)
+    (one : IsOwnView configuration place view at reply) (other : IsOwnView other_configuration other_place view at other_reply)
+    → read_configuration text ≡ Ok configuration → read_configuration other_text ≡ Ok other_configuration
+    → configuration.zone ≡ other_configuration.zone → one.operator ≡ other.operator
+    → one.turn.before.rows ≡ other.turn.before.rows → one.turn.after.known ≡ other.turn.after.known
+    → AreSameOrUnavailable reply other_reply
+
+-- So it depends on the publications and on that operator's own requests alone: where its requests that were served
+-- before, each with the publications at which its desk answered, continue the empty view to the same view at two servers
+-- of one configuration, two views of it at one moment and at equal publications are the same, whatever the others asked.
+abbrev pub ViewsAreByOwnRequests : Type 0
+ViewsAreByOwnRequests =
+    (text : List ℕ) (configuration : Configuration) (place : ℕ) (operator : Operator) (view : FleetView) (at : ℕ) (reply other_reply : Reply)
+    (turns others : List Turn) (one : IsOwnView configuration place view at reply) (other : IsOwnView configuration place view at other_reply)
+    → read_configuration text ≡ Ok configuration → slice_get configuration.operators place ≡ Some operator
+    → AreItsTurns configuration place operator turns one.turn.before.rows → AreItsTurns configuration place operator others other.turn.before.rows
+    → continued [] (served_in configuration place turns) ≡ continued [] (served_in configuration place others)
+    → one.turn.after.known ≡ other.turn.after.known
+    → AreSameOrUnavailable reply other_reply

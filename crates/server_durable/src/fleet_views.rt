@@ -2,6 +2,7 @@
 //! as far as the configuration's oversight goes. Each desk is asked under its own lock, one after another, and nothing
 //! changes.
 ghost use Rattle.std.specs.Prelude.{◌≡◌, ◌++◌, ◌<◌, IfOk, IfSome, OnOk, Some, bytes_eq, false, length, map, position, slice_get};
+ghost use Rattle.mds_desk.specs.Desk.{state_of};
 ghost use Rattle.mds_request.specs.Configuration.{configuration, operator as operator_view};
 ghost use Rattle.mds_request.specs.Request.{request_of};
 ghost use Rattle.server_app.specs.ComplianceList.{compliance_list, entries_text};
@@ -26,7 +27,7 @@ use mds_text::{Id, Moment};
 use mds_verdict::Evaluator;
 use server_app::{OperatorName, Oversight, begin_compliance_list, push_compliance};
 use server_routes::{FleetQuestion, FleetView};
-use server_state::{HallName, response};
+use server_state::{HallDesk, HallName, response};
 use std::alloc::{AllocError, Global};
 use std::sync::Wait;
 use std::thread;
@@ -152,7 +153,27 @@ enum ComplianceAnswers {
 }
 
 impl<K: HallName, N: LogName, L: Log, S: Space> DurableHall<K, N, L, S> {
-    /// What the desk of the operator at this place answers it, by one turn under the desk's lock.
+    /// What this desk answers its operator, by one turn. The operator's vehicles stay as they were.
+    fn answer_view<R: Wait, E: Evaluator<Catalogue>>(
+        &self,
+        context: &Context<'_, R, E>,
+        desk: &mut HallDesk<K>,
+        operator: &Operator,
+        view: FleetView,
+        at: Moment,
+    ) -> SharedReply
+        requires judge { E.may_judge }
+        requires its { slice_get K.configuration.operators desk.old.place ≡ Some (operator_view operator.now) }
+        ensures own { IsOwnView K.configuration desk.old.place view at result }
+        ensures rows { (state_of desk.new.desk).rows ≡ (state_of desk.old.desk).rows }
+    {
+        let request = own_request(operator, view, at);
+        let note = self.hall.note(context.rt);
+        desk.answer_request(&request, note.as_ref(), &mut OpenGate, context.evaluator)
+    }
+
+    /// What the desk of the operator at this place answers it, by one turn under the desk's lock. The operator's
+    /// vehicles stay as they were.
     ///
     /// # Errors
     ///
@@ -169,13 +190,11 @@ impl<K: HallName, N: LogName, L: Log, S: Space> DurableHall<K, N, L, S> {
         ensures { IfOk result (IsOwnView K.configuration place view at) }
     {
         let config = self.hall.configuration()?;
-        let request = own_request(operator_at(&*config, place), view, at);
+        let operator = operator_at(&*config, place);
         let Some(mut desk) = self.hall.desk_at(context.rt, place) else {
             return Err(CommitFault::NoMemory);
         };
-        let note = self.hall.note(context.rt);
-        let answer = desk.answer_request(&request, note.as_ref(), &mut OpenGate, context.evaluator);
-        Ok(answer)
+        Ok(self.answer_view(context, &mut *desk, operator, view, at))
     }
 
     /// What each operator's desk answers it about its compliance, one desk after another.

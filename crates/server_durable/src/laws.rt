@@ -1,5 +1,5 @@
 //! Laws of a city's responses. The functions do nothing: their contracts are the laws.
-ghost use Rattle.server_durable.specs.Laws.{AppCallsAreNotKept, ManyAreKept, OperatorsAreToldTheirOwn, RecordedAreKept, RespondsAsAHall, ViewsAreAskedByTheOperator, ViewsLeaveRows, WithdrawalsAreOfOwnPolicies};
+ghost use Rattle.server_durable.specs.Laws.{AppCallsAreNotKept, ManyAreKept, OperatorsAreToldTheirOwn, RecordedAreKept, RespondsAsAHall, ViewsAreAskedByTheOperator, ViewsAreByOwnRequests, ViewsAreByOwnRows, ViewsLeaveRows, WithdrawalsAreOfOwnPolicies};
 
 use journal_file::Log;
 
@@ -41,4 +41,11 @@ pub fn views_are_asked_by_the_operator()
 /// A view of an operator's fleet leaves its vehicles as they were.
 pub fn views_leave_vehicles()
     ensures { ViewsLeaveRows }
+{}
+
+/// What is told of an operator's fleet depends on the publications and on that operator's own rows alone, and so on the
+/// publications and its own requests alone.
+pub fn views_are_of_their_operator()
+    ensures rows { ViewsAreByOwnRows }
+    ensures requests { ViewsAreByOwnRequests }
 {}
