@@ -475,6 +475,7 @@ def of_an_archive(program, replay):
     journal says, in any order, and also by themselves. What is left says less."""
     with tempfile.TemporaryDirectory(prefix="report-") as room, tempfile.TemporaryDirectory(prefix="report-") as other:
         made = Made(program, replay, room, "archive", SPRING)
+        yield from says_what_was_answered(made)
         cut, every = len(made.lines) // 2, ("--every", str(EVERY))
         city = Journal(program, other, made.given, payloads(made.lines[:cut]))
         archive = archive_of(city)
