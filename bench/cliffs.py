@@ -21,7 +21,6 @@ import argparse
 import collections
 import contextlib
 import json
-import multiprocessing
 import os
 import shutil
 import socket
@@ -38,10 +37,11 @@ sys.path.append(os.path.join(HERE, "..", "tests"))
 # This folder's http.py and report.py, not others of these names.
 from http import processor_seconds, resident, send, send_many, serve  # noqa: E402
 
+from beside import FORK, Background  # noqa: E402
 from kept import City  # noqa: E402
 from measure import Shape, documents_of, line, spread, told  # noqa: E402
 from report import configuration, served, texts, with_quick_sums, write_journal  # noqa: E402
-from wire import PATIENCE, SECONDS, Link, request  # noqa: E402
+from wire import PATIENCE, Link, request  # noqa: E402
 
 PROGRAM, KEEPING = (os.path.join(HERE, "..", "crates", it, "out", it) for it in ("mds_serve", "ruffletuff"))
 ROUNDS = 3
@@ -55,7 +55,6 @@ MARGIN, REPORTING_PAUSE = 200_000, 0.01
 THINNED = b"ruffletuff: the journal is thinned\n"
 FLEET, COMPLIANCE, POLICIES = "/fleet/vehicles", "/compliance", "/policies"
 MOST_SECONDS = 120 * PATIENCE  # for one answer, however badly it goes, and for thinning
-FORK = multiprocessing.get_context("fork")
 
 
 class Rows:
@@ -87,28 +86,6 @@ def asks_on(port, token, targets, pause, over, told_by):
             times.append(time.perf_counter() - begun)
             time.sleep(pause)
     told_by.put((times, body))
-
-
-class Asking:
-    """An operator that asks all the time, in a process of its own."""
-
-    def __init__(self, port, token, targets, pause=0.0):
-        self.over, self.told_by = FORK.Event(), FORK.Queue()
-        self.process = FORK.Process(target=asks_on, args=(port, token, targets, pause, self.over, self.told_by), daemon=True)
-
-    def __enter__(self):
-        self.process.start()
-        return self
-
-    def __exit__(self, *_):
-        self.over.set()
-        self.process.join(SECONDS)
-        self.process.kill()
-
-    def end(self):
-        """The seconds of its answers, and the last one's body."""
-        self.over.set()
-        return self.told_by.get(timeout=MOST_SECONDS)
 
 
 def whole_reply(link, target, token):
@@ -221,10 +198,11 @@ def publication_part(options, sizes, rows):
             first = SHAPE.places + 2 * turn * PUBLICATIONS
             rows.add("publication, alone", statistics.median(publications(author, random, first)))
             with contextlib.ExitStack() as others:
-                asking = [others.enter_context(Asking(server.port, generate.token(it), [COMPLIANCE])) for it in range(ASKERS)]
+                operators = (Background(asks_on, server.port, generate.token(it), [COMPLIANCE], 0) for it in range(ASKERS))
+                asking = [others.enter_context(it) for it in operators]
                 time.sleep(1)
                 seconds = publications(author, random, first + PUBLICATIONS)
-                answers = [it.end() for it in asking]
+                answers = [it.end(MOST_SECONDS) for it in asking]
             rows.add("publication", statistics.median(seconds))
             rows.add("longest publication", max(seconds))
             rows.add("question", statistics.median(it for times, _ in answers for it in times))
@@ -269,7 +247,7 @@ def start_part(options, sizes, rows, city, written):
 
 def longest_wait(server, random, is_over):
     """The longest wait of an operator while another one reports, until it is over."""
-    with server.link() as link, Asking(server.port, generate.token(1), [POLICIES, COMPLIANCE], 0.001) as asking:
+    with server.link() as link, Background(asks_on, server.port, generate.token(1), [POLICIES, COMPLIANCE], 0.001) as asking:
         device = json.loads(whole_reply(link, FLEET, generate.token(0)))["vehicles"][0]["device_id"]
         until = time.monotonic() + MOST_SECONDS
         while not is_over():
@@ -278,7 +256,7 @@ def longest_wait(server, random, is_over):
             at = time.time_ns() // 1_000_000
             send(link, generate.report(random, 0, device, at))
             time.sleep(REPORTING_PAUSE)
-        return max(asking.end()[0])
+        return max(asking.end(MOST_SECONDS)[0])
 
 
 def thinning_part(options, sizes, rows, city, written):

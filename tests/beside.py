@@ -1,5 +1,5 @@
-"""What stands beside a load: another operator that asks all the while, in a process of its own, and what reads the server's memory and
-open files from /proc."""
+"""What stands beside a load: what asks all the while in a process of its own, as another operator does, and what reads the server's memory
+and open files from /proc."""
 
 import contextlib
 import multiprocessing
@@ -16,6 +16,30 @@ PAUSE = 0.004
 MEGABYTE = 1 << 20
 # A server that takes more is ended, and has failed.
 MOST_MEMORY = 1_500 * MEGABYTE
+FORK = multiprocessing.get_context("fork")
+
+
+class Background:
+    """A process of its own, in which a function works until it is over and then puts what it tells: it is given these words, what is set
+    once it is over, and where to put."""
+
+    def __init__(self, call, *words):
+        self.over, self.told_by = FORK.Event(), FORK.Queue()
+        self.process = FORK.Process(target=call, args=(*words, self.over, self.told_by), daemon=True)
+
+    def __enter__(self):
+        self.process.start()
+        return self
+
+    def __exit__(self, *_):
+        self.over.set()
+        self.process.join(SECONDS)
+        self.process.kill()
+
+    def end(self, seconds=2 * SECONDS):
+        """Ends it: what it tells, which may take so long."""
+        self.over.set()
+        return self.told_by.get(timeout=seconds)
 
 
 def asks_on(port, token, asked, over, told):
@@ -45,27 +69,12 @@ def asks_on(port, token, asked, over, told):
     told.put((times, faults))
 
 
-class Neighbour:
-    """Another operator that asks all the while."""
+class Neighbour(Background):
+    """Another operator that asks all the while, and tells the seconds of its answers and its faults."""
 
     def __init__(self, port, token):
-        fork = multiprocessing.get_context("fork")
-        self.asked, self.over, self.told = fork.Value("q", 0), fork.Event(), fork.Queue()
-        self.process = fork.Process(target=asks_on, args=(port, token, self.asked, self.over, self.told), daemon=True)
-
-    def __enter__(self):
-        self.process.start()
-        return self
-
-    def __exit__(self, *_):
-        self.over.set()
-        self.process.join(SECONDS)
-        self.process.kill()
-
-    def end(self):
-        """The seconds of its answers, and its faults."""
-        self.over.set()
-        return self.told.get(timeout=2 * SECONDS)
+        self.asked = FORK.Value("q", 0)
+        super().__init__(asks_on, port, token, self.asked)
 
 
 def memory_of_connections():

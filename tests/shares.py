@@ -23,7 +23,6 @@ import argparse
 import concurrent.futures
 import itertools
 import json
-import multiprocessing
 import os
 import statistics
 import sys
@@ -32,7 +31,7 @@ import threading
 import time
 
 import packages
-from beside import high_of
+from beside import Background, high_of
 from clients import draft_of_policy, policy, these_policies
 from journals import until
 from kept import Alone, City, Tried, held, slowed
@@ -208,28 +207,10 @@ def sends_on(port, bodies, over, told):
     told.put([it.told() for it in senders])
 
 
-class Sending:
-    """The first operator, which sends bodies of many lines all the time."""
-
-    def __init__(self, port, bodies):
-        fork = multiprocessing.get_context("fork")
-        self.over, self.answers = fork.Event(), fork.Queue()
-        self.process = fork.Process(target=sends_on, args=(port, bodies, self.over, self.answers), daemon=True)
-
-    def __enter__(self):
-        self.process.start()
-        return self
-
-    def __exit__(self, *_):
-        self.over.set()
-        self.process.join(SECONDS)
-        self.process.kill()
-
-    def end(self):
-        """How many bodies were taken, how many bodies and lines were told busy, and what was answered otherwise."""
-        self.over.set()
-        taken, busy, faults = zip(*self.answers.get(timeout=3 * SECONDS))
-        return sum(taken), sum(busy), [it for some in faults for it in some]
+def summed(told):
+    """Of what senders tell: how many bodies were taken, how many bodies and lines were told busy, and what was answered otherwise."""
+    taken, busy, faults = zip(*told)
+    return sum(taken), sum(busy), [it for some in faults for it in some]
 
 
 # --- The loads -----------------------------------------------------------------------------------------------------
@@ -290,9 +271,10 @@ def under_load(tried, what, server, bodies, seconds, most, singles=0):
     over = threading.Event()
     others = Others(server.port, over)
     alone = [Client(server.port, FIRST, reports_of(FIRST_SINGLE + it), over) for it in range(singles)]
-    with Sending(server.port, bodies) as sending:
+    # The first operator sends bodies of many lines all the time.
+    with Background(sends_on, server.port, bodies) as sending:
         lasting(seconds, over, others.all() + alone)
-        taken, busy, faults = sending.end()
+        taken, busy, faults = summed(sending.end(3 * SECONDS))
     print(f"{what}: {taken} bodies of many lines are taken, {busy} bodies and lines of them are told busy", flush=True)
     for name, senders in others.of.items():
         told(f"{what}: {name}", senders)
