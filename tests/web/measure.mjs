@@ -1,11 +1,12 @@
-// How fast the page is with a fleet of N vehicles: node measure.mjs N..
+// How fast the page is with a fleet of N vehicles, and where N is the word `operators` with 64 operators of 2,000: node measure.mjs N..
 //
 // The API is answered by a server in this process, from documents that are made beforehand, so that the page alone is measured.
 // Prints a line for each N: milliseconds from signing in to the cards and to the fleet, of a frame while panning and of another
-// moment, megabytes of the heap and of the fleet as JSON.
+// moment, megabytes of the heap and of the fleet as JSON. Of operators it prints the milliseconds that the page's checks are about.
 
 import { Browser } from "./browser.mjs";
 import { fleet, published, serve } from "./mock.mjs";
+import { many } from "./oversight.mjs";
 
 /** The answers to a fleet of so many vehicles all over the city. */
 function answers(count) {
@@ -59,7 +60,12 @@ const steps = async (isPan) => {
   return Math.round(sum / 20 * 10) / 10;
 };
 
-for (const count of process.argv.slice(2).map(Number)) {
+if (process.argv.includes("operators")) {
+  const browser = new Browser();
+  await many(browser, undefined, { is: () => {}, ok: (name, _, seen) => console.log(name, JSON.stringify(seen)) });
+  await browser.close();
+}
+for (const count of process.argv.slice(2).filter((it) => it !== "operators").map(Number)) {
   const told = answers(count), bytes = told["/fleet/vehicles"].length, server = await serve((path) => told[path]);
   const browser = new Browser(), page = await browser.open(server.url);
   const seen = await page.run(signIn);
