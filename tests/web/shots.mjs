@@ -1,12 +1,15 @@
 // The README's screenshots: node shots.mjs PROGRAM
 //
-// PROGRAM is a built ruffletuff, or mds_serve. Writes docs/page-oversight.png, docs/page-operator.png and docs/page-author.png, each under
-// 150 KB. Look at them.
+// PROGRAM is a built ruffletuff, or mds_serve. Writes docs/page-oversight.png, docs/page-operator.png and docs/page-author.png, and by
+// ruffletuff docs/page-report.png, each under 150 KB. Look at them.
 
-import { readFileSync, statSync, writeFileSync } from "node:fs";
+import { execFileSync } from "node:child_process";
+import { mkdtempSync, readFileSync, rmSync, statSync, writeFileSync } from "node:fs";
+import { tmpdir } from "node:os";
 import { join } from "node:path";
+import { pathToFileURL } from "node:url";
 import { Browser } from "./browser.mjs";
-import { City, TOP } from "./city.mjs";
+import { City, EXAMPLE, TOP } from "./city.mjs";
 import { fillForm, told } from "./looking.mjs";
 import { smaller } from "./png.mjs";
 import { Tally } from "./tally.mjs";
@@ -60,9 +63,20 @@ async function author(browser, city, file) {
   await page.close();
 }
 
+/** The report on a week, as `make report` makes it: what it is about, and the rules that its first operator broke most often. */
+async function report(browser, city, file) {
+  const folder = mkdtempSync(join(tmpdir(), "week-"));
+  execFileSync("python3", ["-B", join(EXAMPLE, "week.py"), city.program, folder], { stdio: ["ignore", "ignore", "inherit"] });
+  const page = await browser.open(pathToFileURL(join(folder, "report.html")).href, { width: WIDTH, height: HEIGHT });
+  await page.run(() => new Promise((then) => { setTimeout(then, 500); }));
+  await page.shot(file);
+  await page.close();
+  rmSync(folder, { recursive: true });
+}
+
 const { ok, done } = new Tally();
 const browser = new Browser(), city = await City.start(process.argv[2], { isTold: true, seconds: 600, fill: "fleets", changes: { oversight: "vehicles" } });
-for (const [name, shoot] of Object.entries({ oversight, operator, author })) {
+for (const [name, shoot] of Object.entries({ oversight, operator, author, ...(city.isKeeping ? { report } : {}) })) {
   const file = join(TOP, "docs", `page-${name}.png`);
   try {
     await shoot(browser, city, file);
