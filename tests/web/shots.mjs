@@ -63,11 +63,12 @@ async function author(browser, city, file) {
   await page.close();
 }
 
-/** The report on a week, as `make report` makes it: what it is about, and the rules that its first operator broke most often. */
+/** The report on a week, as `make report` makes it: the rules that its first operator broke most often. */
 async function report(browser, city, file) {
   const folder = mkdtempSync(join(tmpdir(), "week-"));
   execFileSync("python3", ["-B", join(EXAMPLE, "week.py"), city.program, folder], { stdio: ["ignore", "ignore", "inherit"] });
   const page = await browser.open(pathToFileURL(join(folder, "report.html")).href, { width: WIDTH, height: HEIGHT });
+  await page.run(() => document.querySelector("section").scrollIntoView());
   await page.run(() => new Promise((then) => { setTimeout(then, 500); }));
   await page.shot(file);
   await page.close();
