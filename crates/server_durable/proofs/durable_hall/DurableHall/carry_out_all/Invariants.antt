@@ -1,6 +1,7 @@
 use Rattle.std.proofs.Common.{◌≡◌, ◌≤◌, ◌-◌, length, map, take}
 use Rattle.mds_request.specs.Request.{request_of}
 use Rattle.mds_desk.specs.Desk.{state_of}
+use Rattle.mds_request.specs.declared.config.Actor.TheVariants.{Operator}
 use Rattle.server_durable.proofs.Reports.{Reached}
 use Rattle.server_durable.proofs.durable_hall.DurableHall.carry_out_all.Given as goal
 
@@ -9,6 +10,7 @@ abbrev pub invariant-chunks : goal.invariant-chunks
 invariant-chunks g l = record {
   reached : Reached g.K.HallName.configuration l.fn.place (map request_of (take l.done l.requests)) l.replies.answers.items l.replies.stamp (state_of l.desk.desk);
   place : l.desk.place ≡ l.fn.place;
+  owner : l.records.actor ≡ Operator l.fn.place;
   within : l.done ≤ length l.requests;
 }
 

@@ -2,7 +2,7 @@ use Rattle.std.proofs.Common.{◌≡◌, ◌++◌, length, map, sym, ◌∙◌}
 use Rattle.std.specs.Vec.Iter.{into_iter_items}
 use Rattle.journal_commit.specs.Durable.{chosen}
 use Rattle.journal_commit.proofs.Choosing.{chosen_over}
-use Rattle.journal_commit.proofs.backlog.CommitBacklog.append_chosen.Goals as goal
+use Rattle.journal_commit.proofs.backlog.CommitBacklog.append_places.Goals as goal
 
 pub returns-then-is_settled-clause-appended : goal.returns-then-is_settled-clause-appended
 returns-then-is_settled-clause-appended g c =
