@@ -12,6 +12,7 @@ mod Reports
 pub mod Responses
 mod Runs
 mod Told
+mod Logging
 mod Turns
 mod Unkept
 mod Ways

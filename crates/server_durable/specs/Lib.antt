@@ -2,6 +2,7 @@ pub mod Refusals
 pub mod Records
 pub mod Owners
 pub mod Many
+pub mod Logged
 pub mod Chunks
 pub mod People
 pub mod FleetViews
