@@ -39,9 +39,8 @@ impl<'a> LogCommand<'a> {
     /// Where the journal stands in etcd.
     pub fn place(&self) -> LogPlace<'a> {
         match self {
-            LogCommand::Status(place)
-            | LogCommand::Fetch(_, place)
-            | LogCommand::Seed(_, place) => *place,
+            LogCommand::Status(place) | LogCommand::Fetch(_, place) | LogCommand::Seed(_, place) =>
+                *place,
         }
     }
 }

@@ -4,7 +4,7 @@ use crate::end::LogCommandEnd;
 use crate::folder::{ensure_no_journal, write_journal};
 use crate::host::LogHost;
 use crate::status::{end_of_silence, look_at};
-use journal_cluster::ClusterEngine;
+use journal_cluster::{ClusterEngine, ClusterFault};
 use journal_file::StorageFault;
 use journal_gateway::Dial;
 use journal_register::NOBODY;
@@ -18,8 +18,8 @@ const TRIES: u32 = 3;
 ///
 /// # Errors
 ///
-/// `Unclaimed`; `Damaged` where they don't end where the head says, at each look; why nothing that can be read came
-/// back; `NoMemory`.
+/// `Unclaimed`; `Damaged` where a chunk is missing, or they don't end where the head says, at each look; why no member
+/// answers; `NoMemory`.
 fn journal_in<D: Dial>(
     alloc: Global,
     engine: &mut ClusterEngine<'_, D>,
@@ -32,13 +32,16 @@ fn journal_in<D: Dial>(
         match read_below(alloc, engine, seen.head) {
             Ok(bytes) => return Ok(bytes),
             Err(StorageFault::NoMemory) => return Err(LogCommandEnd::NoMemory),
+            Err(StorageFault::Failed) if is_silent(engine) => return Err(end_of_silence(engine)),
             Err(StorageFault::Failed) => {}
         }
     }
-    match engine.last_fault() {
-        Some(_) => Err(end_of_silence(engine)),
-        None => Err(LogCommandEnd::Damaged),
-    }
+    Err(LogCommandEnd::Damaged)
+}
+
+/// Whether no member answered what was sent last.
+fn is_silent<D: Dial>(engine: &ClusterEngine<'_, D>) -> bool {
+    matches!(engine.last_fault(), Some(ClusterFault::Unanswered(_)))
 }
 
 /// Writes the journal below the head that a look shows into a folder that has none, and prints how many bytes it has.

@@ -37,12 +37,12 @@ impl UserFault {
     }
 }
 
-/// The text of a user's file.
+/// The first bytes of a user's file, up to `MOST_USER`.
 ///
 /// # Errors
 ///
 /// `NoUser`, `NoMemory`.
-pub(crate) fn user_text<R: FileHost>(rt: &R, path: &str) -> Result<String, LogCommandEnd> {
+pub(crate) fn user_bytes<R: FileHost>(rt: &R, path: &str) -> Result<Vec<u8>, LogCommandEnd> {
     match fs::metadata(rt, path) {
         Ok(metadata) if !metadata.is_file() => {
             return Err(LogCommandEnd::NoUser(UserFault::NotRegular));
@@ -53,10 +53,10 @@ pub(crate) fn user_text<R: FileHost>(rt: &R, path: &str) -> Result<String, LogCo
     let Ok(file) = File::open(rt, path) else {
         return Err(LogCommandEnd::NoUser(UserFault::Unreadable));
     };
-    let mut text = String::new(rt.alloc());
+    let mut bytes = Vec::new(rt.alloc());
     let mut front = file.take(MOST_USER);
-    match front.read_to_string(&mut text) {
-        Ok(_) => Ok(text),
+    match front.read_to_end(&mut bytes) {
+        Ok(_) => Ok(bytes),
         Err(error) if error.kind() == ErrorKind::OutOfMemory => Err(LogCommandEnd::NoMemory),
         Err(_) => Err(LogCommandEnd::NoUser(UserFault::Unreadable)),
     }

@@ -2,7 +2,7 @@
 
 use crate::end::LogCommandEnd;
 use crate::fetch::fetch_journal;
-use crate::folder::{UserFault, user_text};
+use crate::folder::{UserFault, user_bytes};
 use crate::host::LogHost;
 use crate::place::{is_city, prefix_of};
 use crate::seed::seed_journal;
@@ -25,28 +25,31 @@ fn attempts_for(members: usize) -> u32 {
     }
 }
 
-/// The text of the user's file, where there is one.
+/// The bytes of the user's file, where there is one.
 ///
 /// # Errors
 ///
 /// `NoUser`, `NoMemory`.
-fn user_text_of<R: LogHost>(rt: &R, place: &LogPlace<'_>) -> Result<Option<String>, LogCommandEnd> {
+fn user_file_of<R: LogHost>(
+    rt: &R,
+    place: &LogPlace<'_>,
+) -> Result<Option<Vec<u8>>, LogCommandEnd> {
     match place.user {
-        Some(path) => Ok(Some(user_text(rt, path)?)),
+        Some(path) => Ok(Some(user_bytes(rt, path)?)),
         None => Ok(None),
     }
 }
 
-/// The user in the text of a file, where there is one.
+/// The user in the bytes of a file, where there is one.
 ///
 /// # Errors
 ///
 /// `NoUser`.
-fn user_of(text: Option<&str>) -> Result<Option<GatewayUser<'_>>, LogCommandEnd> {
-    let Some(text) = text else {
+fn user_of(bytes: &Option<Vec<u8>>) -> Result<Option<GatewayUser<'_>>, LogCommandEnd> {
+    let Some(bytes) = bytes else {
         return Ok(None);
     };
-    match user_in(text) {
+    match user_in(bytes) {
         Some(user) => Ok(Some(user)),
         None => Err(LogCommandEnd::NoUser(UserFault::BadShape)),
     }
@@ -67,8 +70,8 @@ fn run<R: LogHost>(rt: &R, asked: &LogCommand<'_>) -> Result<(), LogCommandEnd> 
         return Err(LogCommandEnd::BadCity);
     }
     let prefix = prefix_of(alloc, place.city)?;
-    let text = user_text_of(rt, &place)?;
-    let user = user_of(text.as_ref().map(|text| text.as_str()))?;
+    let bytes = user_file_of(rt, &place)?;
+    let user = user_of(&bytes)?;
     let dialer = MemberDialer { rt };
     let attempts = attempts_for(members.len());
     let gateway = Gateway::new(alloc, dialer, &members, user, attempts);

@@ -46,10 +46,7 @@ fn check_whole(alloc: Global, bytes: &[u8]) -> Result<(), LogCommandEnd> {
 /// # Errors
 ///
 /// `Claimed`; why nothing that decides came back.
-fn claim<D: Dial>(
-    engine: &mut ClusterEngine<'_, D>,
-    nonce: u64,
-) -> Result<Tenure, LogCommandEnd> {
+fn claim<D: Dial>(engine: &mut ClusterEngine<'_, D>, nonce: u64) -> Result<Tenure, LogCommandEnd> {
     let seen = look_at(engine)?;
     if !seen.owner.is(NOBODY) {
         return Err(LogCommandEnd::Claimed);

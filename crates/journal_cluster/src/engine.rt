@@ -1,4 +1,6 @@
 //! An engine over a cluster's gateway.
+ghost use Rattle.std.specs.Prelude.{◌≡◌};
+ghost use Rattle.journal_cluster.specs.Faults.{storage_fault_of};
 
 use crate::answer::answer_by;
 use crate::fault::ClusterFault;
@@ -21,7 +23,7 @@ pub struct ClusterEngine<'a, D: Dial> {
     alloc: Global,
     gateway: Gateway<'a, D>,
     prefix: &'a str,
-    /// Why nothing that decides came back last.
+    /// Why nothing that decides came back of what was sent last.
     fault: Option<ClusterFault>,
 }
 
@@ -36,7 +38,7 @@ impl<'a, D: Dial> ClusterEngine<'a, D> {
         }
     }
 
-    /// Why nothing that decides came back last; `None` where all that was sent was answered.
+    /// Why nothing that decides came back of what was sent last; `None` where it was answered.
     pub fn last_fault(&self) -> Option<ClusterFault> {
         self.fault
     }
@@ -90,14 +92,15 @@ impl<'a, D: Dial> ClusterEngine<'a, D> {
         let answer = self.gateway.post(path, body.as_str().as_bytes())?;
         Ok(read_chunks(self.alloc, &keys, from, most, &answer)?)
     }
+}
 
-    /// Keeps why nothing that decides came back, and says it in the storage's words.
-    fn note(&mut self, fault: ClusterFault) -> StorageFault {
-        self.fault = Some(fault);
-        match fault {
-            ClusterFault::NoMemory => StorageFault::NoMemory,
-            _ => StorageFault::Failed,
-        }
+/// The fault as the journal's storage has it.
+fn storage_fault_of(fault: ClusterFault) -> StorageFault
+    ensures { result ≡ storage_fault_of fault }
+{
+    match fault {
+        ClusterFault::NoMemory => StorageFault::NoMemory,
+        _ => StorageFault::Failed,
     }
 }
 
@@ -114,9 +117,12 @@ impl<D: Dial> Engine for ClusterEngine<'_, D> {
 
     fn look(&mut self) -> Option<Look> {
         match self.ask_look() {
-            Ok(look) => Some(look),
+            Ok(look) => {
+                self.fault = None;
+                Some(look)
+            }
             Err(fault) => {
-                let _ = self.note(fault);
+                self.fault = Some(fault);
                 None
             }
         }
@@ -124,9 +130,12 @@ impl<D: Dial> Engine for ClusterEngine<'_, D> {
 
     fn transact(&mut self, transaction: &Transaction, bytes: &[u8]) -> Answer {
         match self.ask_transaction(transaction, bytes) {
-            Ok(answer) => answer,
+            Ok(answer) => {
+                self.fault = None;
+                answer
+            }
             Err(fault) => {
-                let _ = self.note(fault);
+                self.fault = Some(fault);
                 Answer::Missing
             }
         }
@@ -140,8 +149,12 @@ impl<D: Dial> Engine for ClusterEngine<'_, D> {
     ) -> Result<u64, StorageFault> {
         let run = match self.ask_chunks(from, most.min(MOST_CHUNKS)) {
             Ok(run) => run,
-            Err(fault) => return Err(self.note(fault)),
+            Err(fault) => {
+                self.fault = Some(fault);
+                return Err(storage_fault_of(fault));
+            }
         };
+        self.fault = None;
         if run.count == 0 || run.count > most {
             return Err(StorageFault::Failed);
         }

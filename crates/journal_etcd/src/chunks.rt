@@ -68,12 +68,7 @@ fn places_from(from: ChunkKey, most: u64) -> u64
 }
 
 /// The chunks from this one on that pairs are, so many at most.
-#[tactic(auto, using(
-    crate::proofs::Chunking::chunks_on,
-    crate::proofs::Chunking::chunks_bad,
-    crate::proofs::Chunking::chunks_end,
-    crate::proofs::Chunking::chunks_done
-))]
+#[tactic(auto, using(crate::proofs::Chunking::chunks_on, crate::proofs::Chunking::chunks_bad, crate::proofs::Chunking::chunks_end, crate::proofs::Chunking::chunks_done))]
 fn run_in(
     alloc: Global,
     keys: &Keys<'_>,

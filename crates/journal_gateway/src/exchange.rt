@@ -4,7 +4,7 @@ ghost use Rattle.journal_gateway.specs.Replies.{Takes};
 
 use crate::dial::MemberStream;
 use crate::fault::GatewayFault;
-use crate::request::{GatewayRequest, push_request};
+use crate::request::push_request;
 use http1::{Client, Event, Limits};
 use httparse::spans::{EMPTY_HEADER_SPAN, ResponseSpans};
 use std::alloc::Global;
@@ -128,19 +128,22 @@ fn read_reply<S: Read>(
     Err(GatewayFault::TooLong)
 }
 
-/// Sends a request over a connection, and reads the response whole.
+/// Posts a body to a path over a connection, and reads the response whole.
 ///
 /// # Errors
 ///
 /// Why there is no response. The connection can't be used again then.
-pub fn make_exchange<S: MemberStream>(
+pub fn make_exchange<'a, S: MemberStream>(
     alloc: Global,
     stream: &mut S,
-    request: &GatewayRequest<'_>,
+    path: &str,
+    host: &'a str,
+    token: Option<&'a str>,
+    body: &[u8],
 ) -> Result<Exchange, GatewayFault> {
     let mut client = Client::new(Limits::default());
-    let mut text = Vec::with_capacity(alloc, request.body.len())?;
-    push_request(&mut client, &mut text, request)?;
+    let mut text = Vec::with_capacity(alloc, body.len())?;
+    push_request(&mut client, &mut text, path, host, token, body)?;
     stream.begin()?;
     stream.write_all(&text)?;
     let (reply, has_surplus) = read_reply(alloc, &mut client, stream)?;

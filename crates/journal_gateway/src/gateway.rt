@@ -4,7 +4,6 @@ use crate::dial::Dial;
 use crate::exchange::{Exchange, GatewayReply, make_exchange};
 use crate::fault::GatewayFault;
 use crate::meaning::{ReplyMeaning, meaning_of, needs_token, next_member};
-use crate::request::GatewayRequest;
 use crate::token::{TOKEN_PATH, read_token, token_request};
 use crate::user::GatewayUser;
 use std::alloc::Global;
@@ -151,13 +150,18 @@ impl<'a, D: Dial> Gateway<'a, D> {
             Some(stream) => stream,
             None => self.dial.dial(host.as_str())?,
         };
-        let request = GatewayRequest {
-            path,
-            host: host.as_str(),
-            token: self.token.as_ref().map(|token| token.as_str()),
-            body,
+        let token = match &self.token {
+            Some(token) => Some(token.as_str()),
+            None => None,
         };
-        let Exchange { reply, is_kept } = make_exchange(self.alloc, &mut stream, &request)?;
+        let Exchange { reply, is_kept } = make_exchange(
+            self.alloc,
+            &mut stream,
+            path,
+            host.as_str(),
+            token,
+            body,
+        )?;
         if is_kept {
             self.stream = Some(stream);
         }

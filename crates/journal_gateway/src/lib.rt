@@ -19,7 +19,6 @@ pub use fault::GatewayFault;
 pub use gateway::Gateway;
 pub use meaning::{ReplyMeaning, meaning_of, needs_token, next_member};
 pub use members::{is_member, members_in};
-pub use request::GatewayRequest;
 pub use tcp::{DialHost, MemberDialer, TcpMember, left_of};
 pub use token::{read_token, token_request};
 pub use user::{GatewayUser, user_in};

@@ -53,11 +53,14 @@ pub fn members_in(alloc: Global, word: &str) -> Result<Option<Vec<String>>, Allo
         return Ok(None);
     };
     let mut members = Vec::new(alloc);
-    for member in list.split(',') {
+    'members: for member in list.split(',') {
         if !is_member(member) || members.len() >= MOST_MEMBERS {
             return Ok(None);
         }
         members.push(String::from_str(alloc, member)?)?;
+    }
+    if members.is_empty() {
+        return Ok(None);
     }
     Ok(Some(members))
 }

@@ -73,7 +73,10 @@ fn says_who_owns_a_journal(rt: HostRuntime) -> Result<(), Fail> {
         has_moved: false,
     };
     let text = status_text(rt.alloc(), &seen)?;
-    assert!(rt; text.as_str() == "owner: none\ngeneration: 0.0\nposition: 0 bytes, 0 chunks, 0 texts\nbeat: 0, more than 1500 ms old\ncluster: 7, revision 9");
+    assert!(rt;
+        text.as_str()
+            == "owner: none\ngeneration: 0.0\nposition: 0 bytes, 0 chunks, 0 texts\nbeat: 0, more than 1500 ms old\ncluster: 7, revision 9"
+    );
     let end = LogEnd {
         position: 1370,
         sum: 5,
@@ -97,6 +100,9 @@ fn says_who_owns_a_journal(rt: HostRuntime) -> Result<(), Fail> {
         has_moved: true,
     };
     let text = status_text(rt.alloc(), &seen)?;
-    assert!(rt; text.as_str() == "owner: none, handed over in epoch 2\ngeneration: 1.0\nposition: 1370 bytes, 1 chunks, 5 texts\nbeat: 0, less than 1500 ms old\ncluster: 7, revision 9");
+    assert!(rt;
+        text.as_str()
+            == "owner: none, handed over in epoch 2\ngeneration: 1.0\nposition: 1370 bytes, 1 chunks, 5 texts\nbeat: 0, less than 1500 ms old\ncluster: 7, revision 9"
+    );
     Ok(())
 }

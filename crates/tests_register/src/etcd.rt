@@ -295,7 +295,9 @@ fn chunks_are_read_in_their_order(rt: HostRuntime) {
     assert!(rt; request.as_str() == CHUNKS_REQUEST);
     let run = read_chunks(alloc, &KEYS, ELEVENTH, 16, TWO_CHUNKS.as_bytes()).expect(&rt, "chunks");
     assert!(rt; run.count == 2 && run.bytes.as_slice() == b"abc");
-    let first = read_chunks(alloc, &KEYS, ELEVENTH, 1, TWO_CHUNKS.as_bytes()).expect(&rt, "a chunk");
+    let first = read_chunks(alloc, &KEYS, ELEVENTH, 1, TWO_CHUNKS.as_bytes()).expect(
+        &rt, "a chunk",
+    );
     assert!(rt; first.count == 1 && first.bytes.as_slice() == b"ab");
     let bad = Some(AnswerError::Fault(AnswerFault::BadShape));
     assert!(rt; read_chunks(alloc, &KEYS, ELEVENTH, 16, NOT_NEXT.as_bytes()).err() == bad);

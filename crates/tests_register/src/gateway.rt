@@ -162,6 +162,46 @@ const FOREIGN_KEYS: &[Step] = &[Step {
     reads: &["HTTP/1.1 403 Forbidden\r\nContent-Length: 2\r\n\r\n{}"],
 }];
 
+/// The members that are asked: one that fails, one that takes no connection, and one that answers.
+const IN_TURN: &[Connection] = &[
+    Connection {
+        address: "a:1",
+        steps: FIRST_MEMBER,
+    },
+    Connection {
+        address: "b:1",
+        steps: &[],
+    },
+    Connection {
+        address: "c:1",
+        steps: THIRD_MEMBER,
+    },
+];
+
+/// One member, which breaks off.
+const ONE_BROKEN_OFF: &[Connection] = &[Connection {
+    address: "a:1",
+    steps: BROKEN_OFF,
+}];
+
+/// One member, which ends a token.
+const TWO_TOKENS: &[Connection] = &[
+    Connection {
+        address: "a:1",
+        steps: ENDED_TOKEN,
+    },
+    Connection {
+        address: "a:1",
+        steps: NEW_TOKEN,
+    },
+];
+
+/// One member, which refuses.
+const ONE_REFUSAL: &[Connection] = &[Connection {
+    address: "a:1",
+    steps: FOREIGN_KEYS,
+}];
+
 /// The members that are given as the address of a cluster.
 fn members_of(rt: &impl Abort, alloc: Global, word: &str) -> Vec<String> {
     match members_in(alloc, word).expect(rt, "memory") {
@@ -191,11 +231,7 @@ fn members_are_asked_in_turn(rt: HostRuntime) {
     assert!(rt; members.len() == 3);
     let dial = Members {
         alloc,
-        connections: &[
-            Connection { address: "a:1", steps: FIRST_MEMBER },
-            Connection { address: "b:1", steps: &[] },
-            Connection { address: "c:1", steps: THIRD_MEMBER },
-        ],
+        connections: IN_TURN,
     };
     let mut gateway = Gateway::new(alloc, dial, &members, None, 3);
     expect_answer(&rt, &mut gateway, "/v3/kv/range", "{}", "{\"kvs\":[]}");
@@ -208,7 +244,7 @@ fn a_part_of_an_answer_is_none(rt: HostRuntime) {
     let members = members_of(&rt, alloc, "etcd:a:1");
     let dial = Members {
         alloc,
-        connections: &[Connection { address: "a:1", steps: BROKEN_OFF }],
+        connections: ONE_BROKEN_OFF,
     };
     let mut gateway = Gateway::new(alloc, dial, &members, None, 1);
     let broken = gateway.post("/v3/kv/range", b"{}").err();
@@ -223,13 +259,15 @@ fn tokens_are_asked_for_anew(rt: HostRuntime) {
     let members = members_of(&rt, alloc, "etcd:a:1,b:1");
     let dial = Members {
         alloc,
-        connections: &[
-            Connection { address: "a:1", steps: ENDED_TOKEN },
-            Connection { address: "a:1", steps: NEW_TOKEN },
-        ],
+        connections: TWO_TOKENS,
     };
-    let user = user_in("city:a\"b\n").expect(&rt, "a user");
-    assert!(rt; user == GatewayUser { name: "city", password: "a\"b" });
+    let user = user_in(b"city:a\"b\n").expect(&rt, "a user");
+    assert!(rt;
+        user == GatewayUser {
+            name: "city",
+            password: "a\"b"
+        }
+    );
     let mut gateway = Gateway::new(alloc, dial, &members, Some(user), 2);
     expect_answer(&rt, &mut gateway, "/v3/kv/range", "{}", "{}");
 }
@@ -240,7 +278,7 @@ fn a_refusal_is_told(rt: HostRuntime) {
     let members = members_of(&rt, alloc, "etcd:a:1");
     let dial = Members {
         alloc,
-        connections: &[Connection { address: "a:1", steps: FOREIGN_KEYS }],
+        connections: ONE_REFUSAL,
     };
     let mut gateway = Gateway::new(alloc, dial, &members, None, 1);
     let refused = gateway.post("/v3/kv/range", b"{}").err();
@@ -264,7 +302,7 @@ fn addresses_and_users_are_read(rt: HostRuntime) {
     assert!(rt; members.len() == 2);
     assert!(rt; members_of(&rt, alloc, "http://h1:2379").is_empty());
     assert!(rt; members_of(&rt, alloc, "etcd:h1:1,").is_empty());
-    assert!(rt; user_in(":a").is_none() && user_in("a").is_none());
+    assert!(rt; user_in(b":a").is_none() && user_in(b"a").is_none());
     let request = token_request(alloc, "n", "p").expect(&rt, "memory");
     assert!(rt; request.as_slice() == b"{\"name\":\"n\",\"password\":\"p\"}");
     let token = read_token(alloc, b"{\"header\":{},\"token\":\"NK.20\"}").expect(&rt, "a token");
