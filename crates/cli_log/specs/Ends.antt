@@ -5,7 +5,9 @@ use Rattle.journal_gateway.specs.declared.fault.GatewayFault.TheVariants as gate
 use Rattle.journal_cluster.specs.declared.fault.ClusterFault.{ClusterFault}
 use Rattle.journal_cluster.specs.declared.fault.ClusterFault.TheVariants as cluster
 use Rattle.cli_log.specs.declared.end.LogCommandEnd.{LogCommandEnd}
-use Rattle.cli_log.specs.declared.end.LogCommandEnd.TheVariants.{Done, NoAnswer, BadAnswer, NotPrinted, BadCluster, BadCity, NoUser, NoMemory, Unusable, Present, NoJournal, Locked, Damaged, NotWritten, NotSeeded, Unclaimed, Claimed, Barred}
+use Rattle.cli_log.specs.declared.end.LogCommandEnd.TheVariants.{Done, NoAnswer, BadAnswer, NotPrinted, BadCluster}
+use Rattle.cli_log.specs.declared.end.LogCommandEnd.TheVariants.{BadCity, NoUser, NoMemory, Unusable, Present, NoJournal}
+use Rattle.cli_log.specs.declared.end.LogCommandEnd.TheVariants.{Locked, Damaged, NotWritten, NotSeeded, Unclaimed, Claimed, Barred}
 
 abbrev pub exit_status : LogCommandEnd → ℕ
 exit_status Done = 0

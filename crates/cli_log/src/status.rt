@@ -3,8 +3,9 @@
 use crate::end::{LogCommandEnd, end_of_fault};
 use crate::host::LogHost;
 use journal_cluster::ClusterEngine;
+use journal_file::LogEnd;
 use journal_gateway::Dial;
-use journal_register::{Look, NOBODY, Owner};
+use journal_register::{Extent, Generation, Look, NOBODY, Owner};
 use journal_remote::Engine;
 use std::alloc::{AllocError, Global};
 use std::thread;
@@ -54,7 +55,21 @@ fn owner_text(alloc: Global, owner: Owner) -> Result<String, AllocError> {
     }
 }
 
-/// What two looks showed, in lines.
+/// How far a journal goes, in two lines.
+fn extent_text(alloc: Global, extent: Extent) -> Result<String, AllocError> {
+    let Generation { epoch, attempt } = extent.generation;
+    let chunks = extent.chunks;
+    let LogEnd {
+        position,
+        count,
+        ..
+    } = extent.end;
+    format!(in alloc;
+        "generation: {epoch}.{attempt}\nposition: {position} bytes, {chunks} chunks, {count} texts"
+    )
+}
+
+/// What two looks showed, in five lines.
 pub fn status_text(alloc: Global, seen: &LookPair) -> Result<String, AllocError> {
     let Look {
         cluster,
@@ -63,16 +78,11 @@ pub fn status_text(alloc: Global, seen: &LookPair) -> Result<String, AllocError>
         head,
     } = seen.last;
     let owner = owner_text(alloc, owner)?;
-    let extent = head.extent;
-    let epoch = extent.generation.epoch;
-    let attempt = extent.generation.attempt;
-    let chunks = extent.chunks;
-    let position = extent.end.position;
-    let count = extent.end.count;
+    let extent = extent_text(alloc, head.extent)?;
     let beat = head.beat;
     let age = if seen.has_moved { "less" } else { "more" };
     format!(in alloc;
-        "{owner}\ngeneration: {epoch}.{attempt}\nposition: {position} bytes, {chunks} chunks, {count} texts\nbeat: {beat}, {age} than {BETWEEN_MILLIS} ms old\ncluster: {cluster}, revision {revision}"
+        "{owner}\n{extent}\nbeat: {beat}, {age} than {BETWEEN_MILLIS} ms old\ncluster: {cluster}, revision {revision}"
     )
 }
 
