@@ -294,11 +294,11 @@ fn chunks_are_read_in_their_order(rt: HostRuntime) {
     let request = chunks_request(alloc, &KEYS, ELEVENTH, 16).expect(&rt, "a request");
     assert!(rt; request.as_str() == CHUNKS_REQUEST);
     let run = read_chunks(alloc, &KEYS, ELEVENTH, 16, TWO_CHUNKS.as_bytes()).expect(&rt, "chunks");
-    assert!(rt; run.count == 2 && run.bytes.as_slice() == b"abc");
+    assert!(rt; run.count == 2 && run.bytes.as_slice() == b"abc".as_slice());
     let first = read_chunks(alloc, &KEYS, ELEVENTH, 1, TWO_CHUNKS.as_bytes()).expect(
         &rt, "a chunk",
     );
-    assert!(rt; first.count == 1 && first.bytes.as_slice() == b"ab");
+    assert!(rt; first.count == 1 && first.bytes.as_slice() == b"ab".as_slice());
     let bad = Some(AnswerError::Fault(AnswerFault::BadShape));
     assert!(rt; read_chunks(alloc, &KEYS, ELEVENTH, 16, NOT_NEXT.as_bytes()).err() == bad);
     assert!(rt; read_chunks(alloc, &KEYS, ELEVENTH, 16, MISSING.as_bytes()).err() == bad);

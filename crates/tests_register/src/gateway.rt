@@ -304,7 +304,7 @@ fn addresses_and_users_are_read(rt: HostRuntime) {
     assert!(rt; members_of(&rt, alloc, "etcd:h1:1,").is_empty());
     assert!(rt; user_in(b":a").is_none() && user_in(b"a").is_none());
     let request = token_request(alloc, "n", "p").expect(&rt, "memory");
-    assert!(rt; request.as_slice() == b"{\"name\":\"n\",\"password\":\"p\"}");
+    assert!(rt; request.as_slice() == b"{\"name\":\"n\",\"password\":\"p\"}".as_slice());
     let token = read_token(alloc, b"{\"header\":{},\"token\":\"NK.20\"}").expect(&rt, "a token");
     assert!(rt; token.as_str() == "NK.20");
     assert!(rt; read_token(alloc, b"{\"token\":\"a b\"}").err() == Some(GatewayFault::NoToken));
