@@ -117,7 +117,10 @@ def tell_report(program, state):
     begun, ended = (time.strftime("%Y-%m-%dT%H:%M", time.localtime(it)) for it in (time.time() - AGE // 1000, time.time()))
     path = os.path.relpath(os.path.join(HERE, "city.json"))
     command = [program, "report", state, "--config", path, "--from", begun, "--to", ended]
+    monday = time.time() - 86_400 * time.localtime().tm_wday
+    days = (time.strftime("%Y-%m-%d", time.localtime(it)) for it in (monday - 7 * 86_400, monday))
     print("The city is kept in a folder that goes when this ends. What follows reports who broke which rule in its week until now, and since when.")
+    print("Its moments are those of the city's clock; with --from {} --to {} in their place it is last week, Monday to Sunday.".format(*days))
     if "unproved" in program:
         print("With this program, which was built before its proof, that takes several minutes.")
     week.tell_alone(command, configuration["operators"][0], os.path.join("out", "river-city", configuration["operators"][0]["token"]))
