@@ -4,7 +4,7 @@ ghost use Rattle.cli_journal.specs.Compaction.{may_leave_remains, is_unbegun};
 
 use crate::configuration::{configuration_in, configuration_text};
 use crate::exit_cause::ExitCause;
-use crate::host::ThinHost;
+use crate::host::{CutHost, ThinHost};
 use crate::messages::report_cut;
 use cli_args::ThinOptions;
 use cli_host::{FileHost, MessageHost};
@@ -118,7 +118,7 @@ fn is_unbegun<L: HasLogEnd>(log: &L) -> bool
 ///
 /// `Folder` where another program has the folder, the journal is damaged, or what is to be cut can't be kept;
 /// `NoMemory`.
-fn cut_and_report<R: ThinHost>(rt: &R, folder: &str) -> Result<bool, ExitCause> {
+fn cut_and_report<R: CutHost>(rt: &R, folder: &str) -> Result<bool, ExitCause> {
     let Folder {
         lock: _lock,
         journal,

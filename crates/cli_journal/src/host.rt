@@ -11,7 +11,12 @@ pub trait ReadHost: FileHost + Print {}
 
 impl<R: FileHost + Print> ReadHost for R {}
 
-/// What `thin` needs: in addition standard error, file operations by path, the clock, and blocking waits.
-pub trait ThinHost: ReadHost + MessageHost + Folders + Clock + Wait {}
+/// What `thin` needs of files and time: in addition standard error, file operations by path, and the clock.
+pub trait CutHost: ReadHost + MessageHost + Folders + Clock {}
 
-impl<R: ReadHost + MessageHost + Folders + Clock + Wait> ThinHost for R {}
+impl CutHost for HostRuntime {}
+
+/// What `thin` needs: in addition blocking waits.
+pub trait ThinHost: CutHost + Wait {}
+
+impl<R: CutHost + Wait> ThinHost for R {}

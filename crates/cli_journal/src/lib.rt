@@ -21,7 +21,7 @@ pub use configuration::{
     configuration_in, configuration_text, operator_names_in, read_text_and_report,
 };
 pub use exit_cause::ExitCause;
-pub use host::{ReadHost, ThinHost};
+pub use host::{CutHost, ReadHost, ThinHost};
 pub use integrity::{check, check_startable};
 pub use messages::{report_cut, report_exit, report_usage};
 pub use report_fault::{REPORT_FILES, ReportFault, ReportFile, span_of};
