@@ -1,6 +1,5 @@
 mod Dayed
 mod Groups
-mod Guarded
 mod Longest
 mod Marked
 mod Rowed

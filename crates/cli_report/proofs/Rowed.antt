@@ -1,41 +1,48 @@
 -- Cells and rows, put together.
-use Rattle.std.proofs.Common.{◌≡◌, ◌<◌, ℕ, List, [], ◌∷◌, ◌++◌, map, length, get_or, refl, ap, subst, ◌∙◌, append_assoc, arith}
+use Rattle.std.proofs.Common.{◌≡◌, ◌<◌, ℕ, ◌+◌, List, [], ◌∷◌, ◌++◌, map, take, length, get_or, refl, sym, ap, subst, ◌∙◌, arith}
+use Rattle.std.proofs.lemmas.List.{map-append, take_more}
+use Rattle.csv.specs.Writing.{row_text}
 use Rattle.mds_match.specs.Zone.{ZoneKind}
 use Rattle.mds_policy.specs.Policy.{Policy}
 use Rattle.journal_samples.specs.declared.sample.RuleSample.{RuleSample}
-use Rattle.cli_report.specs.Cells.{Cell, IsCell, IsLater, IsRow, IsText, cell_view}
-use Rattle.cli_report.specs.Csv.{cell_text}
+use Rattle.cli_report.specs.Cells.{AreFields, Cell, IsField, IsRow, IsText, cell_view}
+use Rattle.cli_report.specs.Csv.{guarded, row_style}
 use Rattle.cli_report.specs.Days.{IsOrdered, day_sample}
 use Rattle.cli_report.specs.Names.{Label, label_of}
 use Rattle.cli_report.specs.Rows.{IsDays, IsSummary, Operator, day_cells, day_row, tally_of}
-use Rattle.cli_report.specs.Texts.{Appends, Spells}
+use Rattle.cli_report.specs.Texts.{Appends}
 use Rattle.cli_report.specs.declared.cell.CellValue as program
 use Rattle.cli_report.specs.declared.days.DaySample.{DaySample}
 use Rattle.cli_report.specs.declared.summary.Tally.{Tally}
-use Rattle.cli_report.proofs.Spelled.{spelled_map}
 
-pub cell_made : (zone : ZoneKind) (c : Cell) (plain bytes old new : List ℕ) → IsText zone c plain → bytes ≡ plain → new ≡ old ++ cell_text bytes
-    → Appends (IsCell zone c) old new
-unfolding IsCell
-cell_made zone c plain bytes old new is same made = (cell_text plain, (plain, is, refl), made ∙ ap (λ b. old ++ cell_text b) same)
+pub field_made : (zone : ZoneKind) (c : Cell) (plain lent field : List ℕ) → IsText zone c plain → lent ≡ plain → field ≡ guarded lent → IsField zone c field
+unfolding IsField
+field_made zone c plain lent field is same made = (plain, is, made ∙ ap guarded same)
 
-pub later_made : (zone : ZoneKind) (c : Cell) (old mid new : List ℕ) → mid ≡ old ++ 44 ∷ [] → Appends (IsCell zone c) mid new
-    → Appends (IsLater zone c) old new
-unfolding IsLater
-later_made zone c old mid new comma made =
-    (44 ∷ made.0, (made.0, made.1, refl), made.2 ∙ ap (λ s. s ++ made.0) comma ∙ append_assoc old (44 ∷ []) made.0)
+-- one cell more
+fields_more : (zone : ZoneKind) (cells : List Cell) (fields : List (List ℕ)) (c : Cell) (field : List ℕ) → AreFields zone cells fields → IsField zone c field
+    → AreFields zone (cells ++ c ∷ []) (fields ++ field ∷ [])
+fields_more zone [] fields c field are is = (field, [], is, refl, ap (λ fs. fs ++ field ∷ []) are)
+fields_more zone (x ∷ cells) fields c field are is =
+    (are.0, are.1 ++ field ∷ [], are.2, fields_more zone cells are.1 c field are.3 is, ap (λ fs. fs ++ field ∷ []) are.4)
 
-pub row_made : (zone : ZoneKind) (first : Cell) (others : List program.CellValue) (old one all new : List ℕ) → Appends (IsCell zone first) old one
-    → Appends (Spells (λ c. IsLater zone (cell_view c)) others) one all → new ≡ all ++ 13 ∷ 10 ∷ []
-    → Appends (IsRow zone (first ∷ map cell_view others)) old new
+pub field_more : (zone : ZoneKind) (cells : List program.CellValue) (i : ℕ) (k : program.CellValue) (old new : List (List ℕ)) (begun lent field : List ℕ)
+    → i < length cells → k ≡ get_or cells i k → AreFields zone (map cell_view (take i cells)) old → IsField zone (cell_view k) field → begun ≡ []
+    → lent ≡ field → new ≡ old ++ (begun ++ lent) ∷ [] → AreFields zone (map cell_view (take (i + 1) cells)) new
+field_more zone cells i k old new begun lent field within is so_far made none same grown =
+    let all =
+    ap (λ y. map cell_view (take i cells) ++ cell_view y ∷ []) is
+    ∙ sym (map-append cell_view (take i cells) (get_or cells i k ∷ []))
+    ∙ ap (map cell_view) (sym (take_more cells i k within)) in
+    let fields = grown ∙ ap (λ b. old ++ (b ++ lent) ∷ []) none ∙ ap (λ f. old ++ f ∷ []) same in
+    subst (λ cs. AreFields zone cs new) all
+    (subst (AreFields zone (map cell_view (take i cells) ++ cell_view k ∷ [])) (sym fields)
+    (fields_more zone (map cell_view (take i cells)) old (cell_view k) field so_far made))
+
+pub row_made : (zone : ZoneKind) (cells : List Cell) (fields : List (List ℕ)) (row lent old new : List ℕ) → AreFields zone cells fields
+    → row ≡ row_text row_style fields → lent ≡ row → new ≡ old ++ lent → Appends (IsRow zone cells) old new
 unfolding IsRow
-row_made zone first others old one all new begun more made = (
-  begun.0 ++ more.0 ++ 13 ∷ 10 ∷ [],
-  (begun.0, more.0, begun.1, spelled_map (IsLater zone) cell_view others more.0 more.1, refl),
-  made
-      ∙ ap (λ s. s ++ 13 ∷ 10 ∷ []) (more.2 ∙ ap (λ s. s ++ more.0) begun.2 ∙ append_assoc old begun.0 more.0)
-      ∙ append_assoc old (begun.0 ++ more.0) (13 ∷ 10 ∷ []),
-)
+row_made zone cells fields row lent old new are is same made = (row, (fields, are, is), made ∙ ap (λ s. old ++ s) same)
 
 -- the row of a day by its first sample
 day_row_is : (o : Operator) (policies : List Policy) (samples : List DaySample) (s : DaySample) → 0 < length samples → s ≡ get_or samples 0 s

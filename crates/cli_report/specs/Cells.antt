@@ -1,12 +1,12 @@
 -- Cells and rows of a report, and how they are written (RFC 4180, section 2).
-use Rattle.std.specs.Prelude.{◌≡◌, ℕ, ◌+◌, ◌/◌, List, [], ◌∷◌, ◌++◌, Option, Some, None}
+use Rattle.std.specs.Prelude.{◌≡◌, ℕ, ◌+◌, ◌/◌, List, [], ◌∷◌, Option, Some, None}
 use Rattle.std.specs.Fmt.{decimal}
 use Rattle.uuid.specs.Text.{hyphenated_text, lower}
 use Rattle.mds_match.specs.Zone.{ZoneKind}
 use Rattle.cli_calendar.specs.Clocks.{clock_at}
 use Rattle.cli_calendar.specs.Texts.{IsDay, IsLocal, IsUtc}
-use Rattle.cli_report.specs.Csv.{cell_text}
-use Rattle.cli_report.specs.Texts.{Spells}
+use Rattle.csv.specs.Writing.{row_text}
+use Rattle.cli_report.specs.Csv.{guarded, row_style}
 use Rattle.cli_report.specs.declared.cell.CellValue as program
 use Rattle.cli_report.specs.declared.cell.CellValue.TheVariants as cell
 
@@ -51,16 +51,16 @@ IsText zone (utc t) bytes = IsUtc t bytes
 IsText zone (local moment) bytes = IsLocalIf zone moment bytes
 IsText zone (day t) bytes = IsDay (clock_at zone t / 86400) bytes
 
--- the text as it stands in a row
-unfoldable pub IsCell : ZoneKind → Cell → List ℕ → Type 0
-IsCell zone c bytes = (plain : List ℕ) × IsText zone c plain × (bytes ≡ cell_text plain)
+-- the text as a field of a row
+unfoldable pub IsField : ZoneKind → Cell → List ℕ → Type 0
+IsField zone c bytes = (plain : List ℕ) × IsText zone c plain × (bytes ≡ guarded plain)
 
--- each cell but the first has a comma in front
-unfoldable pub IsLater : ZoneKind → Cell → List ℕ → Type 0
-IsLater zone c bytes = (own : List ℕ) × IsCell zone c own × (bytes ≡ 44 ∷ own)
+-- a field for each cell
+abbrev pub AreFields : ZoneKind → List Cell → List (List ℕ) → Type 0
+AreFields zone [] fields = fields ≡ []
+AreFields zone (c ∷ cells) fields =
+    (first : List ℕ) × (others : List (List ℕ)) × IsField zone c first × AreFields zone cells others × (fields ≡ first ∷ others)
 
--- a row ends with a carriage return and a line feed
+-- the row of these fields, as `csv` writes it
 unfoldable pub IsRow : ZoneKind → List Cell → List ℕ → Type 0
-IsRow zone [] bytes = bytes ≡ 13 ∷ 10 ∷ []
-IsRow zone (c ∷ cells) bytes =
-    (first later : List ℕ) × IsCell zone c first × Spells (IsLater zone) cells later × (bytes ≡ first ++ later ++ 13 ∷ 10 ∷ [])
+IsRow zone cells bytes = (fields : List (List ℕ)) × AreFields zone cells fields × (bytes ≡ row_text row_style fields)

@@ -1,6 +1,8 @@
--- Cells of CSV (RFC 4180, section 2), and those of them that no spreadsheet takes as a formula.
+-- Fields of CSV that no spreadsheet takes as a formula, and how a row of them is written (RFC 4180, section 2).
 use Rattle.std.specs.Prelude.{ℕ, List, [], ◌∷◌, ◌++◌, Bool, ◌||◌, ◌==◌, if◌then◌else◌}
-use Rattle.std.specs.List.{flat_map, list_any}
+use Rattle.csv.specs.Writing.{default_writer, with_terminator}
+use Rattle.csv.specs.declared.parser.Terminator.TheVariants.{CRLF}
+use Rattle.csv.specs.declared.writer.WriterBuilder.{WriterBuilder}
 
 -- a text that begins with `=`, `+`, `-`, `@`, a tab or a carriage return may be taken as a formula
 abbrev pub begins_formula : ℕ → Bool
@@ -14,17 +16,7 @@ mark (b ∷ bytes) = if begins_formula b then 39 ∷ [] else []
 abbrev pub guarded : List ℕ → List ℕ
 guarded bytes = mark bytes ++ bytes
 
--- a comma, a quotation mark, a carriage return and a line feed stand between quotation marks alone
-abbrev pub is_special : ℕ → Bool
-is_special b = (b == 44) || (b == 34) || (b == 13) || (b == 10)
-
--- a quotation mark stands there twice
-abbrev pub doubled : ℕ → List ℕ
-doubled b = if b == 34 then 34 ∷ 34 ∷ [] else b ∷ []
-
-abbrev pub quoted : List ℕ → List ℕ
-quoted bytes = if list_any is_special bytes then 34 ∷ flat_map doubled bytes ++ 34 ∷ [] else bytes
-
--- a text as a cell
-abbrev pub cell_text : List ℕ → List ℕ
-cell_text bytes = quoted (guarded bytes)
+-- how `csv` writes a row: with a comma between two fields, quotation marks round a field that needs them, and a carriage
+-- return and a line feed at the end
+abbrev pub row_style : WriterBuilder
+row_style = with_terminator default_writer CRLF

@@ -4,10 +4,10 @@
 
 mod cell;
 mod counts;
-mod csv;
 mod days;
 mod escape;
 mod excess;
+mod formula;
 mod names;
 mod page;
 mod pieces;

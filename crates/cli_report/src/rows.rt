@@ -1,63 +1,73 @@
 //! The rows of a report.
-ghost use Rattle.std.specs.Prelude.{◌≡◌, ◌++◌, ◌∷◌, [], map, OnOk};
-ghost use Rattle.cli_report.specs.Cells.{IsCell, IsLater, IsRow, cell_view};
-ghost use Rattle.cli_report.specs.Texts.{Appends, Spells};
+ghost use Rattle.std.specs.Prelude.{◌≡◌, IfOk, OnOk, map};
+ghost use Rattle.csv.specs.Records.{fields_of};
+ghost use Rattle.csv.specs.Writing.{row_text};
+ghost use Rattle.cli_report.specs.Cells.{AreFields, IsField, IsRow, cell_view};
+ghost use Rattle.cli_report.specs.Csv.{row_style};
+ghost use Rattle.cli_report.specs.Texts.{Appends};
 
 use crate::cell::{CellValue, plain_text};
-use crate::csv::push_text;
+use crate::formula::guard_text;
+use csv::{ByteRecord, Terminator, WriterBuilder};
 use mds_match::Zone;
-use std::alloc::AllocError;
+use std::alloc::{AllocError, Global};
 
-/// Appends a cell.
-fn push_cell(out: &mut Vec<u8>, zone: &Zone, cell: &CellValue<'_>) -> Result<(), AllocError>
-    ensures { OnOk result (Appends (IsCell zone.now (cell_view cell.now)) out.old.items out.new.items) }
+/// The text of a cell as a field of its row.
+fn field_of(alloc: Global, zone: &Zone, cell: &CellValue<'_>) -> Result<Vec<u8>, AllocError>
+    ensures { IfOk result (λ field. IsField zone.now (cell_view cell.now) field.items) }
 {
-    let text = plain_text(*out.allocator(), zone, cell)?;
-    push_text(out, &text)
+    let text = plain_text(alloc, zone, cell)?;
+    guard_text(alloc, &text)
 }
 
-/// Appends a cell that isn't the first one of its row.
-fn push_later(out: &mut Vec<u8>, zone: &Zone, cell: &CellValue<'_>) -> Result<(), AllocError>
-    ensures { OnOk result (Appends (IsLater zone.now (cell_view cell.now)) out.old.items out.new.items) }
+/// A field for each of these cells, in their order.
+fn gather_fields(
+    alloc: Global,
+    zone: &Zone,
+    cells: &[CellValue<'_>],
+) -> Result<ByteRecord, AllocError>
+    ensures { IfOk result (λ row. AreFields zone.now (map cell_view cells.now) (fields_of row)) }
 {
-    out.push(b',')?;
-    push_cell(out, zone, cell)
-}
-
-/// Appends all cells of a row but its first one.
-#[tactic(auto, using(crate::proofs::Spelled::none_yet))]
-fn push_others(out: &mut Vec<u8>, zone: &Zone, cells: &[CellValue<'_>]) -> Result<(), AllocError>
-    ensures { OnOk result (Appends (Spells (λ c. IsLater zone.now (cell_view c)) cells.now)
-        out.old.items out.new.items) }
-{
+    let mut fields = ByteRecord::new(alloc);
     for cell in cells {
-        push_later(out, zone, cell)?;
+        let field = field_of(alloc, zone, cell)?;
+        fields.push_field(&field)?;
     }
-    Ok(())
+    Ok(fields)
 }
 
-/// Appends a carriage return and a line feed.
-fn push_line_end(out: &mut Vec<u8>) -> Result<(), AllocError>
-    ensures { OnOk result (out.new.items ≡ out.old.items ++ 13 ∷ 10 ∷ []) }
+/// The row of these fields. A writer over a vector fails only where memory runs out.
+fn write_row(alloc: Global, fields: &ByteRecord) -> Result<Vec<u8>, AllocError>
+    ensures { IfOk result (λ row. row.items ≡ row_text row_style (fields_of fields.now)) }
 {
-    out.extend_from_slice(b"\r\n")
+    let mut writer = WriterBuilder::new()
+        .terminator(Terminator::CRLF)
+        .from_writer(Vec::new(alloc));
+    let Ok(()) = writer.write_byte_record(fields) else {
+        return Err(AllocError);
+    };
+    match writer.into_inner() {
+        Ok(row) => Ok(row),
+        Err(_) => Err(AllocError),
+    }
 }
 
-/// Appends a row: its first cell, and the others.
+/// Appends the row of these cells.
 ///
 /// # Errors
 ///
-/// Out of memory. Then a part may have been appended.
+/// Out of memory. Then nothing has been appended.
 pub(crate) fn push_row(
     out: &mut Vec<u8>,
     zone: &Zone,
-    first: &CellValue<'_>,
-    others: &[CellValue<'_>],
+    cells: &[CellValue<'_>],
 ) -> Result<(), AllocError>
-    ensures { OnOk result (Appends (IsRow zone.now (cell_view first.now ∷ map cell_view others.now))
+    ensures { OnOk result (Appends (IsRow zone.now (map cell_view cells.now))
         out.old.items out.new.items) }
 {
-    push_cell(out, zone, first)?;
-    push_others(out, zone, others)?;
-    push_line_end(out)
+    let alloc = *out.allocator();
+    let fields = gather_fields(alloc, zone, cells)?;
+    let row = write_row(alloc, &fields)?;
+    out.extend_from_slice(&row)?;
+    Ok(())
 }

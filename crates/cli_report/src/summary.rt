@@ -102,7 +102,8 @@ fn push_tally<'x>(
         (label_view label.now) first.now tally.now))
         out.old.items out.new.items) }
 {
-    let others = [
+    let cells = [
+        CellValue::Id(operator.id),
         CellValue::Text(operator.name),
         CellValue::Id(first.policy),
         CellValue::Text(label.policy),
@@ -120,7 +121,7 @@ fn push_tally<'x>(
         CellValue::Number(tally.greatest_measure),
         CellValue::NumberIf(tally.least_measure),
     ];
-    push_row(out, zone, &CellValue::Id(operator.id), &others)
+    push_row(out, zone, &cells)
 }
 
 /// Appends the row of the samples of a rule's day.

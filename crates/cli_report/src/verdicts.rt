@@ -87,7 +87,8 @@ fn push_verdict<'x>(
         (label_view label.now) sample.now))
         out.old.items out.new.items) }
 {
-    let others = [
+    let cells = [
+        CellValue::Utc(sample.at),
         CellValue::Local(Some(sample.at)),
         CellValue::Id(operator.id),
         CellValue::Text(operator.name),
@@ -102,7 +103,7 @@ fn push_verdict<'x>(
         CellValue::Bound(maximum(label)),
         CellValue::Text(units(label)),
     ];
-    push_row(out, zone, &CellValue::Utc(sample.at), &others)
+    push_row(out, zone, &cells)
 }
 
 /// Appends a row for each of these samples, in their order.
