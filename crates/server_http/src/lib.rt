@@ -27,7 +27,7 @@ mod write_progress;
 pub use accept::AcceptOrPause;
 pub use queues::Queues;
 pub use replies::{busy, close_unless_whole, with_close};
-pub use runtime::ConnectionRuntime;
+pub use runtime::{ConnectionHost, ConnectionRuntime};
 pub use server::{ServeOutcome, bind_first, serve_by, serve_up_to};
 pub use server_context::{Crowded, RequestService, ServerContext, SharedService};
 pub use serving::{AcceptorParts, serve_all};

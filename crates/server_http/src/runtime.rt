@@ -6,17 +6,13 @@ use std::sync::Wait;
 use std::thread::Threads;
 use std::time::Clock;
 
-/// The runtime that serves connections: blocking waits, threads, the clock, random bytes and memory, by each thread.
-pub trait ConnectionRuntime: Wait
-    + Threads
-    + Clock
-    + RandomSource
-    + AllocGlobal
-    + Sync
-    + Send
-    + Copy
-    + Drop {}
+/// What each thread of a server has of the machine: the clock, random bytes and memory, by a handle that threads share
+/// and that can be copied.
+pub trait ConnectionHost: Clock + RandomSource + AllocGlobal + Sync + Send + Copy + Drop {}
 
-impl<
-    R: Wait + Threads + Clock + RandomSource + AllocGlobal + Sync + Send + Copy + Drop,
-> ConnectionRuntime for R {}
+impl ConnectionHost for HostRuntime {}
+
+/// The runtime that serves connections: that of each thread, with blocking waits and the starting of threads.
+pub trait ConnectionRuntime: ConnectionHost + Wait + Threads {}
+
+impl<R: ConnectionHost + Wait + Threads> ConnectionRuntime for R {}

@@ -16,12 +16,13 @@ use futures::future::Either;
 use futures::task::{Context, Poll};
 use futures::{Future, Stream};
 use http_body_util::Full;
-use hyper::rt::Timer;
+use hyper::rt::{Timer, TokioTimer};
 use hyper::server::conn::http1::{Builder, Connection};
 use std::alloc::{AllocError, Global};
 use std::io;
 use std::sync::Arc;
 use tokio::io::{AsyncRead, AsyncWrite};
+use tokio::net::TcpStream;
 use tokio::runtime::Runtime;
 use tokio::sync::OwnedNotified;
 
@@ -242,22 +243,20 @@ where
 }
 
 /// Serves each connection in a task of its own, until no more come.
-pub fn serve_all<R, S, I, A, T>(
+pub fn serve_all<R, S, A>(
     rt: &R,
     runtime: &mut Runtime,
-    http: Builder<T>,
+    http: Builder<TokioTimer<R>>,
     sockets: S,
     context: Arc<ServerContext<A, R>>,
     acceptor_parts: AcceptorParts,
 ) -> io::Result<()>
 where
     R: ConnectionRuntime,
-    S: Stream<Item = I>,
-    I: AsyncRead + AsyncWrite + Send,
+    S: Stream<Item = TcpStream>,
     A: SharedService,
     A::Head: Send,
     A::Reply: Send,
-    T: Timer + Send,
     requires sockets { S.can_poll sockets }
     requires ready { A.may_answer }
 {
