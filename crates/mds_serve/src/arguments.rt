@@ -1,7 +1,7 @@
 //! The arguments of the program.
 
-use crate::runtime::ServeHost;
 use server_start::ServeFault;
+use std::alloc::AllocGlobal;
 use std::env;
 use std::env::Env;
 
@@ -19,7 +19,7 @@ pub struct Arguments<'a> {
 /// # Errors
 ///
 /// `Usage` where they can't be read, `NotOpened` where there is no memory.
-pub fn read_words<R: ServeHost + Env>(rt: &R) -> Result<Vec<String>, ServeFault> {
+pub fn read_words<R: AllocGlobal + Env>(rt: &R) -> Result<Vec<String>, ServeFault> {
     let Ok(mut all) = env::args(rt) else {
         return Err(ServeFault::Usage);
     };

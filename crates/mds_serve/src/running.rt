@@ -13,7 +13,7 @@ use mds_snapshot::{Blank, prepare};
 use server_admission::MachineClock;
 use server_http::{Queues, bind_first};
 use server_start::{
-    HELP, HallService, ServeCommand, ServeFault, SharedMoments, VERSION, command_of, serve, workers,
+    HELP, HallService, ServeCommand, ServeFault, VERSION, command_of, serve, workers,
 };
 use server_state::{Hall, SharedHallName, TurnLists};
 use std::env::Env;
@@ -89,13 +89,13 @@ fn open<K: SharedHallName, R: ServerRuntime>(
 }
 
 /// Binds, says so, serves by so many threads and ends the hall.
-fn listen<K: SharedHallName, R: ServerRuntime, M: SharedMoments>(
+fn listen<K: SharedHallName, R: ServerRuntime>(
     rt: &R,
     threads: usize,
     arguments: Arguments<'_>,
     hall: Hall<K>,
     queues: Queues,
-    moments: M,
+    moments: MachineClock<R>,
 ) -> io::Result<()>
     requires { 0 < threads }
 {

@@ -1,19 +1,15 @@
 //! The bounds of the program's runtime, as two traits.
 
-use std::alloc::AllocGlobal;
+use server_http::{ConnectionHost, ConnectionRuntime};
 use std::io::Print;
 use std::net::Net;
-use std::random::RandomSource;
-use std::sync::Wait;
-use std::thread::Threads;
-use std::time::Clock;
 
-/// What the machine gives to each thread.
-pub trait ServeHost: Clock + RandomSource + AllocGlobal + Print + Sync + Send + Copy + Drop {}
+/// What each thread of the program has of the machine: what those of a server have, standard output, and sockets.
+pub trait ServeHost: ConnectionHost + Print + Net {}
 
 impl ServeHost for HostRuntime {}
 
-/// The runtime of a server: the host, with sockets, threads and blocking waits.
-pub trait ServerRuntime: ServeHost + Wait + Threads + Net {}
+/// The runtime of the program: that of each thread, with blocking waits and the starting of threads.
+pub trait ServerRuntime: ServeHost + ConnectionRuntime {}
 
-impl<R: ServeHost + Wait + Threads + Net> ServerRuntime for R {}
+impl<R: ServeHost + ConnectionRuntime> ServerRuntime for R {}

@@ -13,5 +13,5 @@ pub use command::{HELP, ServeCommand, USAGE, VERSION, command_of};
 pub use count::count_of;
 pub use fault::ServeFault;
 pub use hall_service::HallService;
-pub use serving::{SharedMoments, serve};
+pub use serving::serve;
 pub use threads::workers;

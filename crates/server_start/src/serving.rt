@@ -9,11 +9,6 @@ use std::io;
 use tokio::net::TcpListener;
 use tokio::runtime::Runtime;
 
-/// Moments that several threads share.
-pub trait SharedMoments: Moments + Send + Sync {}
-
-impl<M: Moments + Send + Sync> SharedMoments for M {}
-
 /// Serves so many connections of a listener, or all, by this service, and ends its hall.
 ///
 /// # Errors
@@ -30,7 +25,7 @@ pub fn serve<K, R, M>(
 where
     K: SharedHallName,
     R: ConnectionRuntime,
-    M: SharedMoments,
+    M: Moments + Send + Sync,
 {
     let ended = serve_up_to(rt, runtime, listener, reception, queues, connections);
     let ServeOutcome { answers, outcome } = ended?;
