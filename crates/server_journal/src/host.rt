@@ -6,12 +6,22 @@ use std::io::Eprint;
 use std::sync::Wait;
 use std::time::Clock;
 
-/// What replaying a journal needs: blocking waits, memory, and standard error.
-pub trait ReplayHost: Wait + AllocGlobal + Eprint + Copy + Drop {}
+/// What reports the progress of a journal needs: memory and standard error, by a handle that can be copied.
+pub trait ReportingHost: AllocGlobal + Eprint + Copy + Drop {}
 
-impl<R: Wait + AllocGlobal + Eprint + Copy + Drop> ReplayHost for R {}
+impl ReportingHost for HostRuntime {}
 
-/// What compacting a journal needs: in addition file operations by path, and the clock.
-pub trait CompactorHost: ReplayHost + Folders + Clock {}
+/// What replaying a journal needs: in addition blocking waits.
+pub trait ReplayHost: ReportingHost + Wait {}
 
-impl<R: ReplayHost + Folders + Clock> CompactorHost for R {}
+impl<R: ReportingHost + Wait> ReplayHost for R {}
+
+/// What a journal's files need: in addition to reports file operations by path, and the clock.
+pub trait JournalHost: ReportingHost + Folders + Clock {}
+
+impl JournalHost for HostRuntime {}
+
+/// What compacting a journal needs: in addition blocking waits.
+pub trait CompactorHost: JournalHost + Wait {}
+
+impl<R: JournalHost + Wait> CompactorHost for R {}

@@ -14,7 +14,7 @@ mod thread_job;
 pub use compactor::Compactor;
 pub use fault::JournalFault;
 pub use file_swap::{FileJournal, JournalHandoff, JournalSwapper};
-pub use host::{CompactorHost, ReplayHost};
+pub use host::{CompactorHost, JournalHost, ReplayHost, ReportingHost};
 pub use reporting_space::ReportingSpace;
 pub use starting::{dropped_ids, resume};
 pub use thread_job::{ThreadJob, run_concurrently};

@@ -6,12 +6,22 @@ use std::random::RandomSource;
 use std::sync::Wait;
 use std::thread::Threads;
 
-/// The runtime of a test on one thread.
-pub trait TestRuntime: Wait + Abort + AllocGlobal {}
+/// What a test has of the machine: random bytes and memory, by a handle that threads share.
+pub trait TestHost: RandomSource + AllocGlobal + Sync {}
 
-impl<R: Wait + Abort + AllocGlobal> TestRuntime for R {}
+impl TestHost for HostRuntime {}
+
+/// The runtime of a test, where nothing ends the process: that of the machine, with blocking waits.
+pub trait WaitingRuntime: TestHost + Wait {}
+
+impl<R: TestHost + Wait> WaitingRuntime for R {}
+
+/// The runtime of a test on one thread.
+pub trait TestRuntime: WaitingRuntime + Abort {}
+
+impl<R: WaitingRuntime + Abort> TestRuntime for R {}
 
 /// The runtime of a test whose threads work side by side.
-pub trait JoinRuntime: Wait + Threads + RandomSource + AllocGlobal + Sync {}
+pub trait JoinRuntime: WaitingRuntime + Threads {}
 
-impl<R: Wait + Threads + RandomSource + AllocGlobal + Sync> JoinRuntime for R {}
+impl<R: WaitingRuntime + Threads> JoinRuntime for R {}

@@ -14,10 +14,9 @@ use mds_snapshot::{Blank, OpeningName, prepare};
 use mds_text::Id;
 use server_control::Counters;
 use server_journal::{
-    JournalFault, ReportingSpace, ThreadJob, dropped_ids, resume, run_concurrently,
+    JournalFault, ReportingHost, ReportingSpace, ThreadJob, dropped_ids, resume, run_concurrently,
 };
 use std::alloc::{AllocError, Global};
-use std::io::Eprint;
 use std::marker::Brand;
 use std::process::Abort;
 use std::sync::Arc;
@@ -34,9 +33,9 @@ const LOW: &[u8] =
 const ALFA: &str = "00000000-0000-4000-8000-0000000000a1";
 
 /// The runtime of a test that replays a log.
-trait ReplayRuntime: TestRuntime + Eprint + Copy + Drop {}
+trait ReplayRuntime: TestRuntime + ReportingHost {}
 
-impl<R: TestRuntime + Eprint + Copy + Drop> ReplayRuntime for R {}
+impl<R: TestRuntime + ReportingHost> ReplayRuntime for R {}
 
 /// Counters of a server without connections and operators.
 fn zero_counters(alloc: Global) -> Result<Counters, AllocError> {
