@@ -14,6 +14,7 @@ ghost use Rattle.server_durable.specs.Records.{IsAmong, IsShown};
 
 mod record_commit;
 
+use crate::context::TurnRuntime;
 use crate::durable_hall::AnswerAtPosition;
 use journal_commit::{CommitFault, LogName, LogPosition, Space};
 use journal_file::Log;
@@ -22,7 +23,6 @@ use mds_request::AuthorCall;
 use mds_snapshot::Note;
 pub(crate) use record_commit::{RecordCommit, RecordPayload};
 use server_state::{Hall, HallName, HallRoom, WholeRequest};
-use std::sync::Wait;
 
 /// What one turn of the author's room gave, and the commit of its record. It has to be ended by `complete`, under the
 /// room's lock.
@@ -33,7 +33,7 @@ pub(crate) struct RoomTurn<T: RecordPayload, K: HallName, R, N: LogName, L: Log,
     recording: RecordCommit<T, R, N, L, S>,
 }
 
-impl<T: RecordPayload, K: HallName, R: Wait + Drop, N: LogName, L: Log, S: Space> RoomTurn<
+impl<T: RecordPayload, K: HallName, R: TurnRuntime, N: LogName, L: Log, S: Space> RoomTurn<
     T,
     K,
     R,

@@ -4,6 +4,7 @@ ghost use Rattle.journal_commit.specs.declared.commit_log.CommitFault.TheVariant
 ghost use Rattle.journal_commit.specs.declared.failure.LogFailure.{LogFailure};
 ghost use Rattle.server_durable.specs.Records.{IsAmong, IsShown, IsTitled, place_of};
 
+use crate::context::TurnRuntime;
 use crate::records::{CallReservation, append_or_release, give_back};
 use journal_commit::{CommitFault, CommitLog, LogName, LogPosition, Reservation, Space};
 use journal_file::Log;
@@ -11,7 +12,7 @@ use mds_desk::PublishGuard;
 use mds_snapshot::Note;
 use server_state::{Hall, HallName};
 use std::marker::{Brand, PhantomData};
-use std::sync::{Arc, Wait};
+use std::sync::Arc;
 
 /// Which record it is. A request passes its reservation to a function that is generic over it, which is called with
 /// `Brand`; the proof of that call picks the payload.
@@ -45,7 +46,7 @@ pub(crate) struct RecordCommit<T: RecordPayload, R, N: LogName, L: Log, S: Space
     pub(super) shown: Option<Result<LogPosition<N, L>, CommitFault>>,
 }
 
-impl<T: RecordPayload, R: Wait + Drop, N: LogName, L: Log, S: Space> PublishGuard
+impl<T: RecordPayload, R: TurnRuntime, N: LogName, L: Log, S: Space> PublishGuard
     for RecordCommit<T, R, N, L, S> {
     ghost use Rattle.server_durable.specs.Records.{IsShown};
 
@@ -96,7 +97,7 @@ fn remaining_reservation<T: RecordPayload>(held: Option<TitledReservation<T>>) -
     }
 }
 
-impl<T: RecordPayload, R: Wait + Drop, N: LogName, L: Log, S: Space> RecordCommit<T, R, N, L, S> {
+impl<T: RecordPayload, R: TurnRuntime, N: LogName, L: Log, S: Space> RecordCommit<T, R, N, L, S> {
     /// A recording for a request that isn't answered yet.
     pub(crate) fn new(
         rt: R,
