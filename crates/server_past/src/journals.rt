@@ -34,7 +34,7 @@ impl fmt::Display for PastFault {
 }
 
 /// Where the journals of a city's past come from.
-pub trait PastJournals {
+pub trait PastJournals: Drop {
     ghost use Rattle.std.specs.Prelude.{ℕ, List, IfOk, IfSome};
 
     /// These are the bytes of a journal that tells of what stood at this moment.

@@ -76,7 +76,7 @@ where
     S: Space,
     R: TurnRuntime + Clock,
     E: Evaluator<Catalogue> + Drop,
-    P: PastJournals + Drop,
+    P: PastJournals,
 {
     /// The pending response of the city.
     ///
@@ -134,7 +134,7 @@ where
     S: Space,
     R: TurnRuntime + Clock,
     E: Evaluator<Catalogue> + Drop,
-    P: PastJournals + Drop,
+    P: PastJournals,
 {
     type Head = ResolvedHead<K>;
 
