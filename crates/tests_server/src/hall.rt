@@ -5,7 +5,7 @@ ghost use Rattle.mds_snapshot.specs.Opening.{book_of};
 ghost use Rattle.server_state.specs.TurnLists.{books_of};
 
 use crate::city::{BOTH, CAP, CONFIGURATION, NEW, SQUARE};
-use crate::runtime::TestRuntime;
+use crate::runtime::OverlapRuntime;
 use bytes::Bytes;
 use futures::executor::block_on;
 use http::header::{AUTHORIZATION, CONTENT_TYPE};
@@ -24,7 +24,6 @@ use std::process::Abort;
 use std::random::RandomSource;
 use std::sync::Arc;
 use std::test::Fail;
-use std::thread::Threads;
 
 mod early;
 mod overlapping;
@@ -112,10 +111,15 @@ const QUESTION_OF_BRAVO: &HallExchange = &HallExchange {
     answer: NONE_COUNTED,
 };
 
-/// What tests need of the runtime.
-trait HallRuntime: TestRuntime + Threads + RandomSource + AllocGlobal + Copy {}
+/// What tests of halls have of the machine: random bytes and memory, by a handle that can be copied.
+trait HallHost: RandomSource + AllocGlobal + Copy {}
 
-impl<R: TestRuntime + Threads + RandomSource + AllocGlobal + Copy> HallRuntime for R {}
+impl HallHost for HostRuntime {}
+
+/// What tests need of the runtime.
+trait HallRuntime: HallHost + OverlapRuntime {}
+
+impl<R: HallHost + OverlapRuntime> HallRuntime for R {}
 
 /// The runtime of tests whose threads share it.
 trait SharedHallRuntime: HallRuntime + Sync {}

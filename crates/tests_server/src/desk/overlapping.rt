@@ -4,16 +4,12 @@ ghost use Rattle.mds_snapshot.specs.Opening.{book_of};
 
 use super::looks::{EMPTY, POLICIES};
 use super::*;
+use crate::runtime::OverlapRuntime;
 use crate::waiting::is_set_in_time;
 use mds_desk::Gate;
 use std::sync::Wait;
 use std::sync::atomic::{AtomicBool, Ordering};
 use std::thread::{Threads, join};
-
-/// The runtime of a test whose threads overlap.
-trait DeskRuntime: TestRuntime + Threads {}
-
-impl<R: TestRuntime + Threads> DeskRuntime for R {}
 
 /// The name of an opening that several threads have.
 trait SharedOpeningName: OpeningName + Send + Sync {}
@@ -120,7 +116,7 @@ fn set_up_for_both<K: OpeningName, R: TestRuntime>(
     bravo.learn(&note);
 }
 
-fn two_desks<K: SharedOpeningName, R: DeskRuntime>(
+fn two_desks<K: SharedOpeningName, R: OverlapRuntime>(
     rt: &R,
     room: &mut AuthorRoom<K>,
     alfa: &mut Desk<K>,
@@ -231,7 +227,7 @@ fn assert_rise(rt: &impl Abort, revisions: [u64; 3]) {
     assert!(rt; second <= third);
 }
 
-fn publication_between<K: SharedOpeningName, R: DeskRuntime>(
+fn publication_between<K: SharedOpeningName, R: OverlapRuntime>(
     rt: &R,
     room: &mut AuthorRoom<K>,
     alfa: &mut Desk<K>,
@@ -253,7 +249,7 @@ enum Overlap {
 }
 
 /// Runs it on a room and desks that are furnished for the configuration.
-fn run_overlap<K: SharedOpeningName, R: DeskRuntime>(
+fn run_overlap<K: SharedOpeningName, R: OverlapRuntime>(
     rt: &R,
     alloc: Global,
     config: Config,
@@ -275,7 +271,7 @@ fn run_overlap<K: SharedOpeningName, R: DeskRuntime>(
 }
 
 /// Prepares a blank, and runs it on what is furnished with that.
-fn prepare_and_run<R: DeskRuntime>(rt: &R, alloc: Global, overlap: Overlap) -> Result<(), Fail> {
+fn prepare_and_run<R: OverlapRuntime>(rt: &R, alloc: Global, overlap: Overlap) -> Result<(), Fail> {
     let config = Config::read(alloc, CONFIGURATION)?;
     let blank = prepare(alloc)?;
     run_overlap::<Brand, R>(rt, alloc, config, blank, overlap)

@@ -5,7 +5,7 @@ use mds_desk::Gate;
 use mds_verdict::Plain;
 use server_state::respond_with;
 use std::sync::atomic::{AtomicBool, Ordering};
-use std::thread::join;
+use std::thread::{Threads, join};
 
 /// The author's draft of a policy that supersedes the other.
 const DRAFT_OF_NEXT: &HallExchange = &HallExchange {
