@@ -41,7 +41,7 @@ impl<R: Drop> CityJournals<R> {
     }
 }
 
-impl<R: Folders + Eprint> PastJournals for CityJournals<R> {
+impl<R: Folders + Eprint + Drop> PastJournals for CityJournals<R> {
     ghost use Rattle.std.specs.Prelude.{⊤};
 
     // Of files no contract says anything.

@@ -1,34 +1,21 @@
 //! The runtimes that the program's parts need.
 
-use journal_folder::Folders;
-use std::alloc::AllocGlobal;
+use server_http::{ConnectionHost, ConnectionRuntime};
+use server_journal::JournalHost;
 use std::fs::{File, Files};
-use std::io::{Eprint, Print};
+use std::io::Print;
 use std::net::{Net, TcpListener, TcpStream};
-use std::random::RandomSource;
-use std::sync::Wait;
-use std::thread::Threads;
-use std::time::Clock;
 
-/// The runtime of each thread of the program: the clock, random bytes, memory, file operations by path, standard output
-/// and standard error.
-pub trait ThreadHost: Clock
-    + RandomSource
-    + AllocGlobal
-    + Folders
-    + Print
-    + Eprint
-    + Sync
-    + Send
-    + Copy
-    + Drop {}
+/// The runtime of each thread of the program: what the threads of a server have, what a journal's files need, and
+/// standard output.
+pub trait ThreadHost: ConnectionHost + JournalHost + Print {}
 
 impl ThreadHost for HostRuntime {}
 
 /// The runtime of what serves: that of each thread, with blocking waits and the starting of threads.
-pub trait ServerHost: ThreadHost + Wait + Threads {}
+pub trait ServerHost: ThreadHost + ConnectionRuntime {}
 
-impl<R: ThreadHost + Wait + Threads> ServerHost for R {}
+impl<R: ThreadHost + ConnectionRuntime> ServerHost for R {}
 
 /// The runtime of what opens a city's folder: in addition std's files.
 pub trait FolderHost: ServerHost + Files<File = File> {}

@@ -90,7 +90,7 @@ where
     L: Log + Send,
     S: Space + Send,
     R: ServerHost,
-    P: PastJournals + Send + Sync + Drop,
+    P: PastJournals + Send + Sync,
 {
     let SiteServer {
         listening,
@@ -206,7 +206,7 @@ where
 /// # Errors
 ///
 /// As `outcome_of`.
-fn finish<K: HallName, N: LogName, L: Log, S: Space, R: Wait + Drop, P: Drop>(
+fn finish<K: HallName, N: LogName, L: Log, S: Space, R: ServerHost, P: Drop>(
     rt: &R,
     flushed: Result<(), FlushFault>,
     ended: io::Result<ServeOutcome<Site<'_, K, N, L, S, R, Chunked<R>, P>>>,
