@@ -470,6 +470,19 @@ def thin_while_served(city, archive):
         raise ValueError(f"the server ends with {status, out, said}")
 
 
+def of_one_latest_moment(made, city, archive, latest):
+    """A journal that nothing has come to since it was thinned, and the archived one, say in either order what the whole one says of the
+    moments before their latest entry."""
+    (kept,) = (os.path.join(archive, it) for it in os.listdir(archive))
+    every = ("--every", str(EVERY))
+    wanted = made.city.reported(made.first, latest, *every)
+    for folders in ([city.folder, kept], [kept, city.folder]):
+        found = city.reported(made.first, latest, *every, folders=folders)
+        for name in NAMES:
+            if found[name] != wanted[name]:
+                yield f"{name} of {[os.path.basename(it) for it in folders]}, as it was thinned, isn't that of the whole journal"
+
+
 def of_an_archive(program, replay):
     """The journals of an archive, one of which was thinned while its city was served, say with what is left in the folder what the whole
     journal says, in any order, and also by themselves. What is left says less."""
@@ -481,6 +494,7 @@ def of_an_archive(program, replay):
         archive = archive_of(city)
         if (found := ended(program, "thin", city.folder, "--config", city.file, "--archive", archive))[0]:
             yield f"thin ends with {found}"
+        yield from of_one_latest_moment(made, city, archive, max(split(it)[0] for it in made.lines[:cut]))
         texts = records.read(city.bytes()).texts
         city.keep(records.written([*texts, *map(entry, made.lines[cut:])]))
         thin_while_served(city, archive)

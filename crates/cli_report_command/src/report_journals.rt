@@ -7,6 +7,7 @@ use journal_entry::JournalEntry;
 use journal_folder::{journal_bytes, lent_entries_in, startable_texts, suits};
 use mds_request::Config;
 use std::alloc::{AllocError, Global};
+use std::cmp::Reverse;
 
 /// Adds something behind others.
 fn add<T: Drop>(all: &mut Vec<T>, next: T) -> Result<(), AllocError> {
@@ -56,7 +57,8 @@ fn fault_at(folder: usize, ending: ExitCause) -> ExitCause {
     }
 }
 
-/// The journals of a report by their bytes, in the order of their latest entries.
+/// The journals of a report by their bytes, in the order of their latest entries: of two with one latest moment, as of
+/// a journal that was thinned and what it was before, the one with more entries comes first, since it tells of more.
 ///
 /// # Errors
 ///
@@ -74,6 +76,6 @@ pub fn journals_in<'a>(
             Err(ending) => return Err(fault_at(folder, ending)),
         }
     }
-    journals.sort_by_key(|journal| journal.latest())?;
+    journals.sort_by_key(|journal| (journal.latest(), Reverse(journal.entries.len())))?;
     Ok(journals)
 }
