@@ -1,5 +1,7 @@
 //! The runtimes that the program's parts need.
 
+use journal_commit::Space;
+use journal_file::Log;
 use server_http::{ConnectionHost, ConnectionRuntime};
 use server_journal::JournalHost;
 use std::fs::{File, Files};
@@ -26,3 +28,13 @@ impl<R: ServerHost + Files<File = File>> FolderHost for R {}
 pub trait CommandHost: FolderHost + Net<Listener = TcpListener, Stream = TcpStream> {}
 
 impl<R: FolderHost + Net<Listener = TcpListener, Stream = TcpStream>> CommandHost for R {}
+
+/// A log that the thread which writes it takes over.
+pub trait SendLog: Log + Send {}
+
+impl<L: Log + Send> SendLog for L {}
+
+/// The space that records are reserved in, which threads hand on.
+pub trait SendSpace: Space + Send {}
+
+impl<S: Space + Send> SendSpace for S {}

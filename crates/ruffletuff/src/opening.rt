@@ -7,7 +7,7 @@ ghost use Rattle.journal_recovery.specs.Recovery.{server_of};
 ghost use Rattle.server_journal.specs.Starting.{IsStartedFromLog};
 
 use crate::admin::AdminState;
-use crate::host::{CommandHost, FolderHost, ServerHost, ThreadHost};
+use crate::host::{CommandHost, FolderHost, SendLog, SendSpace, ServerHost, ThreadHost};
 use crate::journal_exit::report_fault;
 use crate::listening::{BoundListener, listen};
 use crate::serving::{ServingParts, persist_and_serve};
@@ -15,7 +15,7 @@ use cli_args::ServeOptions;
 use cli_config::Limits;
 use cli_host::FileHost;
 use cli_journal::{ExitCause, clear, ensure_compactions, journal_length, report_cut};
-use journal_commit::{Ballast, Space, UnnamedHistory};
+use journal_commit::{Ballast, UnnamedHistory};
 use journal_compaction::AnswersAgree;
 use journal_file::{FileStorage, HasLogEnd, Journal, Log};
 use journal_folder::{CutFiles, Folder, FolderFault, Folders, open_folder};
@@ -214,7 +214,7 @@ fn serve_with_swaps<B: CompactionSource<FileJournal, AnswersAgree> + Send, R: Fo
 /// # Errors
 ///
 /// As `serve_city`.
-fn serve_journal<B: CompactionSource<FileJournal, AnswersAgree> + Send, S: Space + Send, R>(
+fn serve_journal<B: CompactionSource<FileJournal, AnswersAgree> + Send, S: SendSpace, R>(
     rt: &R,
     journal: File,
     beside: B,
@@ -245,7 +245,7 @@ where
 fn serve_swap_log<
     L: HasLogEnd + Send,
     B: CompactionSource<L, AnswersAgree> + Send,
-    S: Space + Send,
+    S: SendSpace,
     R,
 >(
     rt: &R,
@@ -269,7 +269,7 @@ where
 /// # Errors
 ///
 /// As `serve_opening`, and `NoMemory`.
-fn serve_log<L: Log + Send, S: Space + Send, R>(
+fn serve_log<L: SendLog, S: SendSpace, R>(
     rt: &R,
     log: L,
     space: S,
@@ -317,7 +317,7 @@ fn resume_and_report<K: HallName, L: Log, R: ThreadHost + Wait>(
 /// # Errors
 ///
 /// As `resume_and_report`, `Folder` where the log couldn't be continued, or as `persist_and_serve`.
-fn serve_opening<K: SharedHallName, L: Log + Send, S: Space + Send, R>(
+fn serve_opening<K: SharedHallName, L: SendLog, S: SendSpace, R>(
     rt: &R,
     log: L,
     space: S,

@@ -6,7 +6,7 @@ ghost use Rattle.ruffletuff.specs.Resumed.{AreResumed};
 use crate::admin::AdminState;
 use crate::city_journals::CityJournals;
 use crate::counting::count_vehicles;
-use crate::host::ServerHost;
+use crate::host::{SendLog, SendSpace, ServerHost};
 use crate::listening::BoundListener;
 use cli_journal::{ExitCause, operator_names_in};
 use journal_commit::{
@@ -87,8 +87,8 @@ fn serve_to_the_end<'a, K, N, L, S, R, P>(
 where
     K: SharedHallName,
     N: SharedLogName,
-    L: Log + Send,
-    S: Space + Send,
+    L: SendLog,
+    S: SendSpace,
     R: ServerHost,
     P: PastJournals + Send + Sync,
 {
@@ -124,8 +124,8 @@ pub fn persist_and_serve<K, N, L, S, R>(
 where
     K: SharedHallName,
     N: SharedLogName,
-    L: Log + Send,
-    S: Space + Send,
+    L: SendLog,
+    S: SendSpace,
     R: ServerHost,
     requires book { history.seen.book ≡ N.book }
     requires listed { (first : List (List ℕ)) × L.may_be log first }
@@ -169,8 +169,8 @@ fn serve_durable_hall<'a, K, N, L, S, R>(
 where
     K: SharedHallName,
     N: SharedLogName,
-    L: Log + Send,
-    S: Space + Send,
+    L: SendLog,
+    S: SendSpace,
     R: ServerHost,
 {
     let board = stage.board;
