@@ -1,3 +1,4 @@
+pub mod Clients
 pub mod Codes
 pub mod History
 pub mod Waiting

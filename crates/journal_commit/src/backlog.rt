@@ -2,6 +2,7 @@
 ghost use Rattle.std.specs.Prelude.{◌≡◌, ◌+◌, ◌≤◌, ◌<◌, ◌++◌, ◌∷◌, [], length, map, true, IfOk, IfSome, IfNone, OnOk, OnErr, OnSome, if◌then◌else◌, get_or, drop, false, vec_len, vec_capacity};
 ghost use mathlib.Core.List.{IsPrefix};
 ghost use Rattle.journal_file.specs.Groups.{is_taken};
+ghost use Rattle.journal_commit.specs.Clients.{AreOf, GoesOnBy, of_client};
 ghost use Rattle.journal_commit.specs.Durable.{chosen};
 ghost use Rattle.journal_commit.specs.Tables.{bytes_in, holding};
 ghost use Rattle.journal_commit.specs.declared.decisions.TheConstants.{MOST_TEXTS};
@@ -9,9 +10,10 @@ ghost use Rattle.journal_commit.specs.declared.backlog.TheConstants.{RECORD_OVER
 ghost use Rattle.journal_commit.specs.declared.reserved_space.TheConstants.{STEP};
 
 use crate::client_shares::ClientShares;
-use crate::decisions::{MOST_TEXTS, MOST_TEXTS_OF_ONE, Round, Usage, next_round};
+use crate::decisions::{MOST_CLIENTS, MOST_TEXTS, MOST_TEXTS_OF_ONE, Round, Usage, next_round};
 use crate::failure::LogFailure;
 use crate::history::{CommitLedger, LogName, LogPosition};
+use crate::own_records::OwnRecords;
 use crate::reserved_space::{ReservedSpace, STEP};
 use crate::space::{NoRoom, Space};
 use journal_file::{Log, fits, is_plain};
@@ -21,6 +23,9 @@ use std::mem;
 
 /// What a record takes next to its payload, in bytes, with a mark for it alone.
 const RECORD_OVERHEAD: u64 = 56;
+
+/// No log gets more payloads than this: one that got one each nanosecond would need a lifetime.
+const MOST_APPENDED: u64 = 1 << 61;
 
 /// Why no reservation was made. Nothing has changed, and the next may succeed.
 #[derive(Clone, Copy, Debug, PartialEq, Eq)]
@@ -70,10 +75,13 @@ pub(crate) struct CommitQueue<K: LogName, L: Log> {
     taken: LogPosition<K, L>,
     /// The log position of all that was appended.
     appended: LogPosition<K, L>,
+    /// How many payloads of each client were appended, by the client's number.
+    counts: Vec<u64>,
 }
 
 impl<K: LogName, L: Log> Model for CommitQueue<K, L> {
     ghost use Rattle.std.specs.Prelude.{◌≡◌, ◌≤◌, ◌++◌, map, vec_capacity};
+    ghost use Rattle.journal_commit.specs.Clients.{AreCounts};
     ghost use Rattle.journal_commit.specs.Waiting.{Waiting, coded_waiting};
     ghost use Rattle.journal_commit.specs.declared.decisions.TheConstants.{MOST_TEXTS};
 
@@ -83,7 +91,8 @@ impl<K: LogName, L: Log> Model for CommitQueue<K, L> {
 
     ghost view = { λ q. record { taken = q.taken; appended = q.appended } };
 
-    ghost invariant = { λ q. (q.appended ≡ q.taken ++ map (λ v. v.items) q.texts.items) × (MOST_TEXTS ≤ vec_capacity q.texts) };
+    ghost invariant = { λ q. (q.appended ≡ q.taken ++ map (λ v. v.items) q.texts.items) × (MOST_TEXTS ≤ vec_capacity q.texts)
+        × AreCounts K.client_of q.counts.items q.appended };
 }
 
 /// The state under the commit log's lock.
@@ -125,18 +134,26 @@ impl Reservation {
 }
 
 impl<K: LogName, L: Log> CommitQueue<K, L> {
-    /// An empty queue.
+    /// An empty queue, for so many clients.
     ///
     /// # Errors
     ///
     /// Out of memory.
-    fn new(alloc: Global, nothing: &LogPosition<K, L>) -> Result<CommitQueue<K, L>, AllocError>
+    #[tactic(auto, using(crate::proofs::Owning::no_counts))]
+    fn new(
+        alloc: Global,
+        nothing: &LogPosition<K, L>,
+        clients: usize,
+    ) -> Result<CommitQueue<K, L>, AllocError>
+        requires { nothing.now ≡ [] }
         ensures { IfOk result (λ q. (q.taken ≡ nothing.now) × (q.appended ≡ nothing.now)) }
     {
+        let counts: Vec<u64> = vec![in alloc; 0; clients.min(MOST_CLIENTS)]?;
         Ok(CommitQueue {
             texts: Vec::with_capacity(alloc, MOST_TEXTS)?,
             taken: nothing.again(),
             appended: nothing.again(),
+            counts,
         })
     }
 
@@ -154,14 +171,60 @@ impl<K: LogName, L: Log> CommitQueue<K, L> {
         self.appended.again()
     }
 
-    /// Appends a payload, and returns the log position after it. None where there is no room, or where another appended
-    /// to the history, which doesn't happen under the lock.
-    fn push(&mut self, ledger: &CommitLedger<K, L>, text: Vec<u8>) -> Option<LogPosition<K, L>>
+    /// How many payloads of this client were appended; none where the number is no client's.
+    #[tactic(auto, using(crate::proofs::Owning::counted_at))]
+    fn count_of(&self, client: usize) -> Option<u64>
+        ensures { IfSome result (λ count. count ≡ length (of_client K.client_of client self.now.appended)) }
+    {
+        if client < self.counts.len() {
+            Some(self.counts[client])
+        } else {
+            None
+        }
+    }
+
+    /// The records of this client, as of all that was appended.
+    fn records_of(&self, client: usize) -> Option<OwnRecords<K, L>>
+        ensures client { IfSome result (λ own. own.client ≡ client) }
+        ensures texts { IfSome result (λ own. own.texts ≡ self.now.appended) }
+    {
+        let count = self.count_of(client)?;
+        Some(OwnRecords::at(client, count, self.all()))
+    }
+
+    /// Whether a client knows all its payloads that were appended.
+    #[tactic(auto, using(crate::proofs::Owning::just))]
+    fn has_just(&self, own: &OwnRecords<K, L>) -> bool
+        ensures { result ≡ true → GoesOnBy K.client_of own.now [] self.now.appended }
+    {
+        let Some(count) = self.count_of(own.client()) else {
+            return false;
+        };
+        if count != own.count() {
+            return false;
+        }
+        own.position().begins(&self.appended)
+    }
+
+    /// Appends a payload of this client, and returns the log position after it. None where there is no room, where the
+    /// number is no client's, or where another appended to the history, which doesn't happen under the lock.
+    #[tactic(auto, using(crate::proofs::Owning::counts_more, crate::proofs::Owning::counted_at))]
+    fn push(
+        &mut self,
+        ledger: &CommitLedger<K, L>,
+        client: usize,
+        text: Vec<u8>,
+    ) -> Option<LogPosition<K, L>>
+        requires { K.client_of text.items ≡ client }
         ensures pushed { IfSome result (λ stamp. (stamp ≡ self.old.appended ++ text.items ∷ []) × (self.new.appended ≡ stamp)) }
         ensures taken { self.new.taken ≡ self.old.taken }
         ensures unchanged { IfNone result (self.new.appended ≡ self.old.appended) }
     {
-        if self.texts.len() >= MOST_TEXTS || self.appended.len() >= (1 << 61) {
+        if client >= self.counts.len() || self.texts.len() >= MOST_TEXTS {
+            return None;
+        }
+        let count = self.counts[client];
+        if count >= MOST_APPENDED || self.appended.len() >= MOST_APPENDED {
             return None;
         }
         let mut appended = self.appended.again();
@@ -169,6 +232,7 @@ impl<K: LogName, L: Log> CommitQueue<K, L> {
             return None;
         }
         self.texts.push_reserved(text);
+        self.counts[client] = count + 1;
         self.appended = appended.again();
         Some(appended)
     }
@@ -244,11 +308,12 @@ impl<K: LogName, L: Log, S: Space> CommitBacklog<K, L, S> {
         space: S,
         clients: usize,
     ) -> Result<CommitBacklog<K, L, S>, AllocError>
-        requires { S.aside space ≡ 0 }
+        requires space { S.aside space ≡ 0 }
+        requires nothing { nothing.now ≡ [] }
         ensures { IfOk result (λ b. (b.queue.taken ≡ nothing.now) × (b.queue.appended ≡ nothing.now)) }
     {
         Ok(CommitBacklog {
-            queue: CommitQueue::new(alloc, nothing)?,
+            queue: CommitQueue::new(alloc, nothing, clients)?,
             room: ReservedSpace::new(space),
             shares: ClientShares::new(alloc, clients)?,
             is_stopping: false,
@@ -320,13 +385,15 @@ impl<K: LogName, L: Log, S: Space> CommitBacklog<K, L, S> {
         }
     }
 
-    /// Appends the payload of a reservation, and returns the log position of all that was appended then. None where it
-    /// can't, which doesn't happen where the reservation was made here.
-    pub(crate) fn append(
+    /// Appends the payload of a reservation, which is of the client with this number, and returns the log position of all
+    /// that was appended then. None where it can't, which doesn't happen where the reservation was made here.
+    fn append_place(
         &mut self,
         ledger: &CommitLedger<K, L>,
+        owner: usize,
         place: Reservation,
     ) -> Option<LogPosition<K, L>>
+        requires { K.client_of place.text.items ≡ owner }
         ensures pushed { IfSome result (λ stamp. (stamp ≡ self.old.queue.appended ++ place.text.items ∷ []) × (self.new.queue.appended ≡ stamp)) }
         ensures taken { self.new.queue.taken ≡ self.old.queue.taken }
     {
@@ -335,7 +402,34 @@ impl<K: LogName, L: Log, S: Space> CommitBacklog<K, L, S> {
         if !self.shares.append(client, bytes) {
             return None;
         }
-        self.queue.push(ledger, text)
+        self.queue.push(ledger, owner, text)
+    }
+
+    /// Appends the payload of a reservation, which is of the client of these records, and returns the log position of
+    /// all that was appended then. None where it can't, which doesn't happen where the reservation was made here and the
+    /// client knows all its records.
+    #[tactic(auto, using(crate::proofs::Owning::one_more))]
+    pub(crate) fn append(
+        &mut self,
+        ledger: &CommitLedger<K, L>,
+        own: &mut OwnRecords<K, L>,
+        place: Reservation,
+    ) -> Option<LogPosition<K, L>>
+        requires { K.client_of place.text.items ≡ own.old.client }
+        ensures pushed { IfSome result (λ stamp. (stamp ≡ self.old.queue.appended ++ place.text.items ∷ []) × (self.new.queue.appended ≡ stamp)) }
+        ensures taken { self.new.queue.taken ≡ self.old.queue.taken }
+        ensures records { IfSome result (λ stamp. GoesOnBy K.client_of own.old (place.text.items ∷ []) stamp) }
+        ensures own { IfSome result (λ stamp. own.new.texts ≡ stamp) }
+        ensures client { own.new.client ≡ own.old.client }
+    {
+        let client = own.client();
+        if !self.queue.has_just(own) {
+            self.release(place);
+            return None;
+        }
+        let stamp = self.append_place(ledger, client, place)?;
+        *own = self.queue.records_of(client)?;
+        Some(stamp)
     }
 
     /// Makes a reservation for each payload of this client.
@@ -365,15 +459,30 @@ impl<K: LogName, L: Log, S: Space> CommitBacklog<K, L, S> {
         Ok(Reservations { client, texts })
     }
 
-    /// Appends a payload that has a reservation, where it is to be persisted, and releases the reservation otherwise.
-    /// Returns whether it did.
+    /// Releases all of these reservations.
+    pub(crate) fn release_all(&mut self, places: Reservations)
+        ensures queue { self.new.queue ≡ self.old.queue }
+    {
+        let Reservations { client, texts } = places;
+        for text in texts {
+            // It has a reservation, so a log accepts it.
+            if let Ok(place) = Reservation::new(client, text) {
+                self.release(place);
+            }
+        }
+    }
+
+    /// Appends a payload of the client with this number that has a reservation, where it is to be persisted, and releases
+    /// the reservation otherwise. Returns whether it did.
     fn append_or_release(
         &mut self,
         ledger: &CommitLedger<K, L>,
+        owner: usize,
         client: usize,
         text: Vec<u8>,
         is_kept: bool,
     ) -> bool
+        requires { K.client_of text.items ≡ owner }
         ensures appended { result ≡ true
             → self.new.queue.appended ≡ self.old.queue.appended ++ (if is_kept then text.items ∷ [] else []) }
         ensures taken { self.new.queue.taken ≡ self.old.queue.taken }
@@ -383,7 +492,7 @@ impl<K: LogName, L: Log, S: Space> CommitBacklog<K, L, S> {
             return false;
         };
         if is_kept {
-            self.append(ledger, place).is_some()
+            self.append_place(ledger, owner, place).is_some()
         } else {
             self.release(place);
             true
@@ -393,12 +502,14 @@ impl<K: LogName, L: Log, S: Space> CommitBacklog<K, L, S> {
     /// Appends those payloads that are to be persisted, in their order, releases the reservations of the others, and
     /// returns the log position of all that was appended then. None where it can't, which doesn't happen where the
     /// reservations were made here.
-    pub(crate) fn append_chosen(
+    fn append_places(
         &mut self,
         ledger: &CommitLedger<K, L>,
+        owner: usize,
         places: Reservations,
         kept: &[bool],
     ) -> Option<LogPosition<K, L>>
+        requires { AreOf K.client_of owner (map (λ v. v.items) places.texts.items) }
         ensures appended { IfSome result (λ stamp. stamp ≡ self.old.queue.appended ++ chosen kept.now (map (λ v. v.items) places.texts.items)) }
         ensures stamp { IfSome result (λ stamp. self.new.queue.appended ≡ stamp) }
         ensures taken { self.new.queue.taken ≡ self.old.queue.taken }
@@ -409,10 +520,51 @@ impl<K: LogName, L: Log, S: Space> CommitBacklog<K, L, S> {
         for text in texts {
             let (is_kept, others) = first_flag(rest);
             rest = others;
-            let settles = self.append_or_release(ledger, client, text, is_kept);
+            let settles = self.append_or_release(ledger, owner, client, text, is_kept);
             is_settled = is_settled & settles;
         }
         if is_settled {
+            Some(self.queue.all())
+        } else {
+            None
+        }
+    }
+
+    /// Appends those payloads that are to be persisted, in their order, releases the reservations of the others, and
+    /// returns the log position of all that was appended then. All are of the client of these records. None where it
+    /// can't, which doesn't happen where the reservations were made here and the client knows all its records.
+    #[tactic(auto, using(crate::proofs::Owning::chosen_more))]
+    pub(crate) fn append_chosen(
+        &mut self,
+        ledger: &CommitLedger<K, L>,
+        own: &mut OwnRecords<K, L>,
+        places: Reservations,
+        kept: &[bool],
+    ) -> Option<LogPosition<K, L>>
+        requires { AreOf K.client_of own.old.client (map (λ v. v.items) places.texts.items) }
+        ensures appended { IfSome result (λ stamp. stamp ≡ self.old.queue.appended ++ chosen kept.now (map (λ v. v.items) places.texts.items)) }
+        ensures stamp { IfSome result (λ stamp. self.new.queue.appended ≡ stamp) }
+        ensures taken { self.new.queue.taken ≡ self.old.queue.taken }
+        ensures records { IfSome result (λ stamp. GoesOnBy K.client_of own.old (chosen kept.now (map (λ v. v.items) places.texts.items)) stamp) }
+        ensures own { IfSome result (λ stamp. own.new.texts ≡ stamp) }
+        ensures client { own.new.client ≡ own.old.client }
+    {
+        let client = own.client();
+        if !self.queue.has_just(own) {
+            self.release_all(places);
+            return None;
+        }
+        let stamp = self.append_places(ledger, client, places, kept)?;
+        *own = self.queue.records_of(client)?;
+        Some(stamp)
+    }
+
+    /// The log position of all that was appended, where a client knows all its records there.
+    pub(crate) fn whole_position(&self, own: &OwnRecords<K, L>) -> Option<LogPosition<K, L>>
+        ensures all { IfSome result (λ all. all ≡ self.now.queue.appended) }
+        ensures records { IfSome result (λ all. GoesOnBy K.client_of own.now [] all) }
+    {
+        if self.queue.has_just(own) {
             Some(self.queue.all())
         } else {
             None

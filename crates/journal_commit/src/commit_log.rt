@@ -1,6 +1,7 @@
 //! The commit log that all desks and the room share: it appends their records, and says when a response may leave.
-ghost use Rattle.std.specs.Prelude.{◌≡◌, ◌++◌, ◌≤◌, [], map, ℕ, List, IfOk, IfNone, IfSome, OnOk, OnErr, vec_capacity};
+ghost use Rattle.std.specs.Prelude.{◌≡◌, ◌++◌, ◌∷◌, ◌≤◌, [], map, ℕ, List, IfOk, IfNone, IfSome, OnOk, OnErr, vec_capacity};
 ghost use mathlib.Core.List.{IsPrefix};
+ghost use Rattle.journal_commit.specs.Clients.{AreOf, GoesOnBy};
 ghost use Rattle.journal_commit.specs.Durable.{AreDurable, AreLast, IsLast, chosen};
 ghost use Rattle.journal_commit.specs.declared.decisions.TheConstants.{MOST_TEXTS};
 ghost use Rattle.journal_commit.specs.declared.decisions.ResponseTiming.TheVariants as tellings;
@@ -10,6 +11,7 @@ use crate::decisions::{ResponseTiming, Round, Usage, may_respond};
 use crate::failure::{FailureFlag, LogFailure};
 use crate::flusher::{FlushFault, Flusher};
 use crate::history::{CommitLedger, LogName, LogPosition, UnnamedHistory};
+use crate::own_records::OwnRecords;
 use crate::space::Space;
 use journal_file::Log;
 use std::alloc::{AllocError, Global};
@@ -109,19 +111,25 @@ impl<K: LogName, L: Log, S: Space> CommitLog<K, L, S> {
     }
 
     /// Appends the record of a request that was carried out, and returns the log position of all that was appended by
-    /// then. It doesn't wait for a sync.
+    /// then: this client's records there are its own so far, and this one behind them. It doesn't wait for a sync.
     ///
     /// # Errors
     ///
-    /// The commit log failed; this doesn't happen where the reservation was made here.
+    /// The commit log failed; this doesn't happen where the reservation was made here, and nobody else appends for this
+    /// client.
     pub fn append<R: Wait>(
         &self,
         rt: &R,
+        own: &mut OwnRecords<K, L>,
         place: Reservation,
     ) -> Result<LogPosition<K, L>, CommitFault>
-        ensures { IfOk result (λ stamp. IsLast place.text.items stamp) }
+        requires { K.client_of place.text.items ≡ own.old.client }
+        ensures last { IfOk result (λ stamp. IsLast place.text.items stamp) }
+        ensures records { IfOk result (λ stamp. GoesOnBy K.client_of own.old (place.text.items ∷ []) stamp) }
+        ensures own { IfOk result (λ stamp. own.new.texts ≡ stamp) }
+        ensures client { own.new.client ≡ own.old.client }
     {
-        let appended = self.backlog.lock(rt).append(&self.ledger, place);
+        let appended = self.backlog.lock(rt).append(&self.ledger, own, place);
         match appended {
             Some(stamp) => {
                 self.more.notify_one();
@@ -158,34 +166,38 @@ impl<K: LogName, L: Log, S: Space> CommitLog<K, L, S> {
 
     /// Releases all of these reservations.
     pub fn release_all<R: Wait>(&self, rt: &R, places: Reservations) {
-        let _nothing = self
-            .backlog
-            .lock(rt)
-            .append_chosen(&self.ledger, places, &[]);
+        self.backlog.lock(rt).release_all(places);
         self.more.notify_one();
     }
 
     /// Appends the records of those requests that are to be persisted, by a flag for each, in their order and with
     /// nothing between, and releases the reservations of the others. Returns the log position of all that was appended
-    /// by then, which isn't before the one known so far. It doesn't wait for a sync.
+    /// by then, which isn't before the one known so far: this client's records there are its own so far, and these behind
+    /// them. It doesn't wait for a sync.
     ///
     /// # Errors
     ///
-    /// The commit log failed; this doesn't happen where the reservations were made here.
+    /// The commit log failed; this doesn't happen where the reservations were made here, and nobody else appends for this
+    /// client.
     pub fn append_chosen<R: Wait>(
         &self,
         rt: &R,
+        own: &mut OwnRecords<K, L>,
         known: &LogPosition<K, L>,
         places: Reservations,
         kept: &[bool],
     ) -> Result<LogPosition<K, L>, CommitFault>
+        requires { AreOf K.client_of own.old.client (map (λ v. v.items) places.texts.items) }
         ensures last { IfOk result (λ stamp. AreLast (chosen kept.now (map (λ v. v.items) places.texts.items)) stamp) }
         ensures known { IfOk result (λ stamp. IsPrefix known.now stamp) }
+        ensures records { IfOk result (λ stamp. GoesOnBy K.client_of own.old (chosen kept.now (map (λ v. v.items) places.texts.items)) stamp) }
+        ensures own { IfOk result (λ stamp. own.new.texts ≡ stamp) }
+        ensures client { own.new.client ≡ own.old.client }
     {
         let settled = self
             .backlog
             .lock(rt)
-            .append_chosen(&self.ledger, places, kept);
+            .append_chosen(&self.ledger, own, places, kept);
         match settled {
             // Under the lock it is all that was appended, so it begins with what was known before.
             Some(stamp) if known.begins(&stamp) => {
@@ -205,14 +217,31 @@ impl<K: LogName, L: Log, S: Space> CommitLog<K, L, S> {
     pub fn append_synced<R: Wait>(
         &self,
         rt: &R,
+        own: &mut OwnRecords<K, L>,
         place: Reservation,
     ) -> Result<LogPosition<K, L>, CommitFault>
+        requires { K.client_of place.text.items ≡ own.old.client }
         ensures last { IfOk result (λ stamp. IsLast place.text.items stamp) }
         ensures durable { IfOk result (λ stamp. AreDurable L.may_be L.is_synced stamp) }
+        ensures records { IfOk result (λ stamp. GoesOnBy K.client_of own.old (place.text.items ∷ []) stamp) }
+        ensures own { IfOk result (λ stamp. own.new.texts ≡ stamp) }
+        ensures client { own.new.client ≡ own.old.client }
     {
-        let stamp = self.append(rt, place)?;
+        let stamp = self.append(rt, own, place)?;
         self.wait(rt, &stamp)?;
         Ok(stamp)
+    }
+
+    /// The log position of all that was appended by now, where this client's records there are just its own. None
+    /// where it has others there.
+    pub fn whole_position<R: Wait>(
+        &self,
+        rt: &R,
+        own: &OwnRecords<K, L>,
+    ) -> Option<LogPosition<K, L>>
+        ensures { IfSome result (λ all. GoesOnBy K.client_of own.now [] all) }
+    {
+        self.backlog.lock(rt).whole_position(own)
     }
 
     /// The log position of all that was appended by now, and so of all that a response made by now can show. It doesn't

@@ -112,11 +112,15 @@ impl<L: Log> Play<Text, u64> for ReadSyncedStep<L> {
 }
 
 /// Names one opened log in the proofs. A program passes what it opens to a function that is generic over the name, and
-/// calls it with `Brand`; the proof of that call picks the book of what was opened.
+/// calls it with `Brand`; the proof of that call picks the book of what was opened, and the number of the client of each
+/// payload.
 pub trait LogName {
+    ghost use Rattle.std.specs.Prelude.{ℕ, List};
     ghost use Rattle.logbook.specs.Pages.{Book};
 
     ghost book: { Book };
+
+    ghost client_of: { List ℕ → ℕ };
 }
 
 /// The name of a log that several threads have. `Brand` alone has it, so that the proof of a call with `Brand` can pick
@@ -127,6 +131,8 @@ impl SharedLogName for Brand {}
 
 impl LogName for Brand {
     ghost book = { record { number = 0; log_name = 0; cells_name = 0 } };
+
+    ghost client_of = { λ text. 0 };
 }
 
 /// An empty history, which has no name yet.

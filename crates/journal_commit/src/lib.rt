@@ -11,6 +11,7 @@ mod failure;
 mod flusher;
 mod history;
 pub mod laws;
+mod own_records;
 mod reserved_space;
 mod space;
 mod sync_wait;
@@ -27,5 +28,6 @@ pub use flusher::{FlushFault, Flusher};
 pub use history::{
     CommitLedger, LogName, LogPosition, SharedLogName, SyncedPrefix, UnnamedHistory,
 };
+pub use own_records::OwnRecords;
 pub use space::{CountedSpace, NoRoom, Space};
 pub use sync_wait::AwaitSync;

@@ -2,6 +2,7 @@
 ghost use Rattle.std.specs.Prelude.{◌≡◌, ℕ, List, IfOk, Ok, map};
 ghost use Rattle.ruffletuff.specs.Ends.{outcome_of};
 ghost use Rattle.ruffletuff.specs.Resumed.{AreResumed};
+ghost use Rattle.server_durable.specs.Owners.{ReadsClients};
 
 use crate::admin::AdminState;
 use crate::city_journals::CityJournals;
@@ -132,6 +133,7 @@ where
     requires resumed { AreResumed (L.may_be log) K.configuration stage.dropped.now
         (map (λ desk. desk.opening.front.seen.log) hall.desks.items) }
     requires space { S.aside space ≡ 0 }
+    requires clients { ReadsClients K.configuration N.client_of }
 {
     let alloc = rt.alloc();
     count_vehicles(rt, &hall, stage.board.counters)?;
@@ -141,7 +143,7 @@ where
         return Err(ExitCause::NoMemory);
     };
     let badges = operator_names_in(alloc, stage.board.configuration)?;
-    let city = DurableHall::new(hall, badges, Arc::try_clone(&keeper)?, nothing);
+    let city = DurableHall::new(alloc, hall, badges, Arc::try_clone(&keeper)?, nothing)?;
     serve_durable_hall(rt, city, &*keeper, flusher, stage)
 }
 

@@ -14,6 +14,8 @@ use Rattle.journal_commit.specs.declared.history.LogName.{Ghosts as Books}
 use Rattle.journal_commit.specs.declared.space.Space.{Ghosts as Spaces}
 use Rattle.journal_commit.proofs.history.LogPosition.TheSendSync as stamp
 use Rattle.journal_commit.proofs.commit_log.CommitLog.TheSendSync as keeper
+use Rattle.server_durable.proofs.client_records.AuthorRecords.TheSendSync as authors
+use Rattle.server_durable.proofs.client_records.OperatorRecords.TheSendSync as operators
 use Rattle.server_durable.specs.contracts.durable_hall.DurableHall as DurableHall
 use Rattle.server_durable.specs.contracts.service.DurableService as DurableService
 
@@ -22,13 +24,17 @@ module _ (K N L S : RattleType) (k : Names K.Denot) (o : Openings K.Denot) (n : 
   city_send space =
       let ks = keeper.the_send N L S n l s space in
       let ky = keeper.the_sync N L S n l s space in
-      declared_send (DurableHall.the_type K N L S k o n l s) (hall_send K k o, (badges.the_send, (search (sendable, crosses) depth 20, (stamp.the_send N L n l, tt))))
+      let rs = authors.the_send K N L k o n l in
+      let os = operators.the_send K N L k o n l in
+      declared_send (DurableHall.the_type K N L S k o n l s) (hall_send K k o, (badges.the_send, (search (sendable, crosses) depth 20, (stamp.the_send N L n l, (search (sendable, crosses) depth 20, (search (sendable, crosses) depth 20, tt))))))
 
   pub city_sync : IsSend S → IsSync (DurableHall.the_row K N L S k o n l s)
   city_sync space =
       let ks = keeper.the_send N L S n l s space in
       let ky = keeper.the_sync N L S n l s space in
-      declared_sync (DurableHall.the_type K N L S k o n l s) (hall_sync K k o, (badges.the_sync, (search (sendable, crosses) depth 20, (stamp.the_sync N L n l, tt))))
+      let rs = authors.the_send K N L k o n l in
+      let os = operators.the_send K N L k o n l in
+      declared_sync (DurableHall.the_type K N L S k o n l s) (hall_sync K k o, (badges.the_sync, (search (sendable, crosses) depth 20, (stamp.the_sync N L n l, (search (sendable, crosses) depth 20, (search (sendable, crosses) depth 20, tt))))))
 
 module _ (K N R E M L S : RattleType) (k : Names K.Denot) (o : Openings K.Denot) (n : Books N.Denot) (l : Logs L.Denot) (s : Spaces S.Denot) where
   pub reception_send : IsSend R → IsSend E → IsSend M → IsSend S → IsSend (DurableService.the_row K N R E M L S k o n l s)

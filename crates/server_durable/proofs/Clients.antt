@@ -28,7 +28,8 @@ caller_is (call.Author what) = refl
 caller_is (call.Operator place what) = refl
 
 module _ (configuration : Configuration) (request : Request) where
-  asks : (own : Call) → call_of configuration request ≡ Ok own → actor_of configuration request.token ≡ caller_of own
+  -- the client that makes a call is the one whose access token the request carries
+  pub asks : (own : Call) → call_of configuration request ≡ Ok own → actor_of configuration request.token ≡ caller_of own
   asks own is = call_of-caller configuration request own is ∙ caller_is own
 
   -- an operator that makes a call has its place in the configuration

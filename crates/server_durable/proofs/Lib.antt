@@ -7,6 +7,7 @@ mod Own
 mod OwnBodies
 pub mod OwnTokens
 mod OwnViews
+pub mod Owning
 mod Reports
 pub mod Responses
 mod Runs

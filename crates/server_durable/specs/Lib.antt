@@ -1,5 +1,6 @@
 pub mod Refusals
 pub mod Records
+pub mod Owners
 pub mod Many
 pub mod Chunks
 pub mod People

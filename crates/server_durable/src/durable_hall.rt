@@ -1,5 +1,6 @@
 //! A hall whose accepted changes are persisted.
-ghost use Rattle.std.specs.Prelude.{◌≡◌, ◌++◌, ◌∷◌, [], IfErr, IfOk, Ok, Err};
+ghost use Rattle.std.specs.Prelude.{◌≡◌, ◌++◌, ◌∷◌, [], IfErr, IfOk, IfSome, Ok, Err};
+ghost use Rattle.std.specs.Sync.Mutex.{mutex_guard_value};
 ghost use Rattle.mds_request.specs.Call.{call_of};
 ghost use Rattle.mds_request.specs.Configuration.{configuration};
 ghost use Rattle.mds_request.specs.Reply.{refused};
@@ -10,11 +11,13 @@ ghost use Rattle.server_state.specs.Response.{Says};
 ghost use Rattle.server_state.specs.TurnItem.{Answered};
 ghost use Rattle.server_state.specs.TurnList.{IsToldTurn};
 ghost use Rattle.server_durable.specs.DurableResponse.{IsRecordedTurn};
+ghost use Rattle.server_durable.specs.Owners.{IsOwnedBy, ReadsClients};
 ghost use Rattle.server_durable.specs.Records.{IsReserved, IsTitled};
 ghost use Rattle.server_durable.specs.Refusals.{SaysUnheldFor, refusal_for};
 ghost use Rattle.server_durable.specs.CacheControl.{Waits};
 
 use crate::cache_control::mark_unstored;
+use crate::client_records::{AuthorRecords, OperatorRecords, lock_each};
 use crate::context::{Context, TurnRuntime};
 use crate::pending::{NoResponse, ResponseAfterSync};
 use crate::records::{
@@ -36,10 +39,11 @@ use server_app::OperatorNames;
 use server_state::{DeskTurns, Hall, HallDesk, HallName, WholeRequest, response};
 use std::alloc::{AllocError, Global};
 use std::marker::Brand;
-use std::sync::{Arc, Wait};
+use std::sync::{Arc, Mutex, MutexGuard, Wait};
 
 /// A hall whose accepted changes are persisted: each has a record in the commit log. `badges` has the names under which
-/// people know its operators. End it by `finish`.
+/// people know its operators. What a client knows of its own records is behind a lock that is held for a turn: an
+/// operator's within that of its desk, the author's around that of the room. End it by `finish`.
 #[derive(Drop)]
 pub struct DurableHall<K: HallName, N: LogName, L: Log, S: Space> {
     pub(crate) hall: Hall<K>,
@@ -47,6 +51,10 @@ pub struct DurableHall<K: HallName, N: LogName, L: Log, S: Space> {
     pub(crate) keeper: Arc<CommitLog<N, L, S>>,
     /// The empty log position: nothing has to be synced.
     pub(crate) nothing: LogPosition<N, L>,
+    /// The author's own records, which a turn of the room takes out and puts back.
+    author: Mutex<Option<AuthorRecords<K, N, L>>>,
+    /// Each operator's own records, in the configuration's order.
+    operators: Vec<Mutex<OperatorRecords<K, N, L>>>,
 }
 
 /// An answer, and the log position of all that it shows.
@@ -70,21 +78,33 @@ pub(crate) struct RecordedTurn<K: HallName, N: LogName, L: Log> {
 impl<K: HallName, N: LogName, L: Log, S: Space> DurableHall<K, N, L, S> {
     /// A hall with the operators' names of its configuration's text, the log that persists its changes, and the empty
     /// log position.
+    ///
+    /// # Errors
+    ///
+    /// Out of memory, or two operators of the configuration have the same identifier, which doesn't happen.
     pub fn new(
+        alloc: Global,
         hall: Hall<K>,
         badges: OperatorNames,
         keeper: Arc<CommitLog<N, L, S>>,
         nothing: LogPosition<N, L>,
-    ) -> DurableHall<K, N, L, S>
-        ensures configured { configuration result.hall.config.value ≡ configuration hall.config.value }
-        ensures badged { result.badges ≡ badges }
+    ) -> Result<DurableHall<K, N, L, S>, AllocError>
+        requires clients { ReadsClients K.configuration N.client_of }
+        requires nothing { nothing ≡ [] }
+        ensures configured { IfOk result (λ city. configuration city.hall.config.value ≡ configuration hall.config.value) }
+        ensures badged { IfOk result (λ city. city.badges ≡ badges) }
     {
-        DurableHall {
+        let config = hall.configuration()?;
+        let operators = lock_each(alloc, &*config, &nothing)?;
+        let author = AuthorRecords::new(&nothing);
+        Ok(DurableHall {
             hall,
             badges,
             keeper,
             nothing,
-        }
+            author: Mutex::new(Some(author)),
+            operators,
+        })
     }
 
     /// Ends the author's room: no request can come any more.
@@ -94,8 +114,27 @@ impl<K: HallName, N: LogName, L: Log, S: Space> DurableHall<K, N, L, S> {
             badges: _badges,
             keeper: _keeper,
             nothing: _nothing,
+            author: _author,
+            operators: _operators,
         } = self;
         hall.finish(rt);
+    }
+
+    /// The records of the operator at this place, once their lock is taken, within that of its desk. All that is known
+    /// of what is behind the lock is that they are some operator's own, so the place is compared; it is never another.
+    pub(crate) fn records_at<R: Wait>(
+        &self,
+        rt: &R,
+        place: usize,
+    ) -> Option<MutexGuard<'_, OperatorRecords<K, N, L>>>
+        ensures { IfSome result (λ guard. (mutex_guard_value guard).place ≡ place) }
+    {
+        let records = self.operators.get(place)?.lock(rt);
+        if records.place == place {
+            Some(records)
+        } else {
+            None
+        }
     }
 
     /// The log position of all that has been appended by now.
@@ -241,11 +280,13 @@ impl<K: HallName, N: LogName, L: Log, S: Space> DurableHall<K, N, L, S> {
         &self,
         context: &Context<'_, R, E>,
         desk: &mut HallDesk<K>,
+        records: &mut OperatorRecords<K, N, L>,
         call: &OperatorCall,
         heard: WholeRequest<'_>,
         reserved: CallReservation,
     ) -> Result<RecordedTurn<K, N, L>, CommitFault>
         requires judge { E.may_judge }
+        requires owner { records.old.place ≡ desk.old.place }
         requires resolved { call_of K.configuration (request_heard heard) ≡ Ok (OperatorAt desk.old.place call.now) }
         requires reserved { IsReserved K.configuration (request_heard heard) reserved }
         ensures recorded { IfOk result (λ turn. IsRecordedTurn K.configuration (Operator desk.old.place)
@@ -259,7 +300,8 @@ impl<K: HallName, N: LogName, L: Log, S: Space> DurableHall<K, N, L, S> {
         let note = self.hall.note(rt);
         let answer = desk.carry_out(heard, call, note.as_ref(), &mut OpenGate, context.evaluator);
         let status = answer.status();
-        let stamp = match append_or_release(rt, &*self.keeper, &self.nothing, reserved, status) {
+        let own = &mut records.own;
+        let stamp = match append_or_release(rt, &*self.keeper, own, reserved, status) {
             Ok(stamp) => stamp,
             Err(fault) => return Err(fault),
         };
@@ -298,7 +340,11 @@ impl<K: HallName, N: LogName, L: Log, S: Space> DurableHall<K, N, L, S> {
             give_back(context.rt, &*self.keeper, reserved);
             return Err(CommitFault::NoMemory);
         };
-        self.record_turn(context, &mut *desk, &call, heard, reserved)
+        let Some(mut records) = self.records_at(context.rt, place) else {
+            give_back(context.rt, &*self.keeper, reserved);
+            return Err(CommitFault::NoMemory);
+        };
+        self.record_turn(context, &mut *desk, &mut *records, &call, heard, reserved)
     }
 
     /// One turn of the author's room for a call of the author, and its record, all under the room's lock. A
@@ -313,21 +359,24 @@ impl<K: HallName, N: LogName, L: Log, S: Space> DurableHall<K, N, L, S> {
         call: AuthorCall,
         heard: WholeRequest<'_>,
         keeper: Arc<CommitLog<N, L, S>>,
+        records: AuthorRecords<K, N, L>,
+        back: &mut Option<AuthorRecords<K, N, L>>,
         reserved: CallReservation,
     ) -> Result<AnswerAtPosition<N, L>, CommitFault>
+        requires owned { IsOwnedBy N.client_of records.own.client reserved }
         requires title { IsTitled T.text reserved }
         requires resolved { call_of K.configuration (request_heard heard) ≡ Ok (ByAuthor call) }
         requires reserved { IsReserved K.configuration (request_heard heard) reserved }
         ensures { IfOk result (λ answered. IsRecordedTurn K.configuration Author
             (request_heard heard.entry) answered.answer answered.stamp) }
     {
-        let recording = RecordCommit::<T, R, N, L, S>::new(*rt, keeper, reserved);
+        let recording = RecordCommit::<T, K, R, N, L, S>::new(*rt, keeper, records, reserved);
         let mut room = self.hall.room(rt);
         let turn = RoomTurn::take(rt, &mut *room, call, heard, recording);
-        turn.complete(&self.hall, &self.nothing)
+        turn.complete(&self.hall, back)
     }
 
-    /// A turn of the author's room: see `room_turn`.
+    /// A turn of the author's room: see `room_turn`. No other takes the author's records meanwhile.
     ///
     /// # Errors
     ///
@@ -344,12 +393,15 @@ impl<K: HallName, N: LogName, L: Log, S: Space> DurableHall<K, N, L, S> {
         ensures { IfOk result (λ answered. IsRecordedTurn K.configuration Author
             (request_heard heard.entry) answered.answer answered.stamp) }
     {
-        match Arc::try_clone(&self.keeper) {
-            Ok(keeper) => self.room_turn::<Brand, R>(rt, call, heard, keeper, reserved),
-            Err(_) => {
-                give_back(rt, &*self.keeper, reserved);
-                Err(CommitFault::NoMemory)
-            }
-        }
+        let Ok(keeper) = Arc::try_clone(&self.keeper) else {
+            give_back(rt, &*self.keeper, reserved);
+            return Err(CommitFault::NoMemory);
+        };
+        let mut author = self.author.lock(rt);
+        let Some(records) = author.take() else {
+            give_back(rt, &*self.keeper, reserved);
+            return Err(CommitFault::Failed(self.keeper.fail(rt)));
+        };
+        self.room_turn::<Brand, R>(rt, call, heard, keeper, records, &mut *author, reserved)
     }
 }

@@ -4,6 +4,7 @@
 
 mod batch;
 mod cache_control;
+mod client_records;
 mod context;
 mod durable_hall;
 mod fleet_views;

@@ -8,10 +8,12 @@ ghost use Rattle.mds_desk.specs.Desk.{state_of};
 ghost use Rattle.server_state.specs.WholeRequest.{request_heard};
 ghost use Rattle.mds_request.specs.declared.config.Actor.TheVariants.{Operator};
 ghost use Rattle.server_durable.specs.Many.{AreAskedBy, AreRecordsOf, AreRefusedBehind, Continues, IsAnsweredInPart, IsHalted, ManyAreAnswered, SaysAll, refusal_behind};
+ghost use Rattle.journal_commit.specs.Clients.{AreOf};
 ghost use Rattle.server_durable.specs.Records.{record_by};
 ghost use Rattle.server_durable.specs.CacheControl.{Waits};
 
 use crate::batch::{chunk_length, may_be_report, reports};
+use crate::client_records::OperatorRecords;
 use crate::context::Context;
 use crate::durable_hall::DurableHall;
 use crate::pending::{NoResponse, ResponseAfterSync};
@@ -246,12 +248,15 @@ impl<K: HallName, N: LogName, L: Log, S: Space> DurableHall<K, N, L, S> {
         &self,
         context: &Context<'_, R, E>,
         desk: &mut HallDesk<K>,
+        records: &mut OperatorRecords<K, N, L>,
         requests: &[Request<'_>],
         places: Reservations,
         known: &LogPosition<N, L>,
     ) -> Result<Replies<N, L>, Halt>
         requires judge { E.may_judge }
+        requires owned { AreOf N.client_of records.old.own.client (map (λ text. text.items) places.texts.items) }
         requires places { AreRecordsOf K.configuration (map request_of requests.now) (map (λ text. text.items) places.texts.items) }
+        ensures owner { records.new.place ≡ records.old.place }
         ensures place { desk.new.place ≡ desk.old.place }
         ensures continues { IfOk result (λ replies. Continues K.configuration (state_of desk.old.desk) known.now
             (map request_of requests.now) (state_of desk.new.desk) replies.answers.items replies.stamp) }
@@ -269,7 +274,7 @@ impl<K: HallName, N: LogName, L: Log, S: Space> DurableHall<K, N, L, S> {
         push_flags(&mut accepted, &answers);
         let stamp = self
             .keeper
-            .append_chosen(context.rt, known, places, &accepted)?;
+            .append_chosen(context.rt, &mut records.own, known, places, &accepted)?;
         Ok(Replies { answers, stamp })
     }
 
@@ -311,13 +316,16 @@ impl<K: HallName, N: LogName, L: Log, S: Space> DurableHall<K, N, L, S> {
         &self,
         context: &Context<'_, R, E>,
         desk: &mut HallDesk<K>,
+        records: &mut OperatorRecords<K, N, L>,
         place: usize,
         requests: &[Request<'_>],
         known: &LogPosition<N, L>,
     ) -> Result<Replies<N, L>, Halt>
         requires judge { E.may_judge }
+        requires owner { records.old.place ≡ place }
         requires place { place < length K.configuration.operators }
         requires asked { AreAskedBy K.configuration place (map request_of requests.now) }
+        ensures owner { records.new.place ≡ records.old.place }
         ensures place { desk.new.place ≡ desk.old.place }
         ensures continues { IfOk result (λ replies. Continues K.configuration (state_of desk.old.desk) known.now
             (map request_of requests.now) (state_of desk.new.desk) replies.answers.items replies.stamp) }
@@ -326,7 +334,7 @@ impl<K: HallName, N: LogName, L: Log, S: Space> DurableHall<K, N, L, S> {
             return self.carry_out_refused(context, desk, requests, known);
         }
         let places = self.reserve_for_all(context.rt, context.alloc, place, requests)?;
-        self.carry_out_reserved(context, desk, requests, places, known)
+        self.carry_out_reserved(context, desk, records, requests, places, known)
     }
 
     /// Answers these requests by turns of this desk, which is that of the operator at this place, chunk by chunk and
@@ -339,10 +347,12 @@ impl<K: HallName, N: LogName, L: Log, S: Space> DurableHall<K, N, L, S> {
         &self,
         context: &Context<'_, R, E>,
         desk: &mut HallDesk<K>,
+        records: &mut OperatorRecords<K, N, L>,
         place: usize,
         requests: &[Request<'_>],
     ) -> Result<Replies<N, L>, Halt>
         requires judge { E.may_judge }
+        requires owner { records.old.place ≡ place }
         requires place { desk.old.place ≡ place }
         requires within { place < length K.configuration.operators }
         requires asked { AreAskedBy K.configuration place (map request_of requests.now) }
@@ -350,14 +360,14 @@ impl<K: HallName, N: LogName, L: Log, S: Space> DurableHall<K, N, L, S> {
     {
         let mut replies = Replies {
             answers: Vec::with_capacity(context.alloc, requests.len())?,
-            stamp: self.nothing.again(),
+            stamp: records.own.position().again(),
         };
         let mut done = 0;
         'chunks: while done < requests.len() {
             let rest = &requests[done..];
             let length = chunk_length(rest);
             let chunk = &rest[..length];
-            match self.carry_out_chunk(context, desk, place, chunk, &replies.stamp) {
+            match self.carry_out_chunk(context, desk, records, place, chunk, &replies.stamp) {
                 Ok(further) => {
                     replies.extend(further)?;
                     done += length;
@@ -388,7 +398,10 @@ impl<K: HallName, N: LogName, L: Log, S: Space> DurableHall<K, N, L, S> {
         let Some(mut desk) = self.hall.desk_at(context.rt, place) else {
             return Err(Halt::Unheld(NoReservation::NoMemory));
         };
-        self.carry_out_all(context, &mut *desk, place, requests)
+        let Some(mut records) = self.records_at(context.rt, place) else {
+            return Err(Halt::Unheld(NoReservation::NoMemory));
+        };
+        self.carry_out_all(context, &mut *desk, &mut *records, place, requests)
     }
 
     /// The response with all answers, once all that they show is synced.

@@ -1,16 +1,20 @@
 //! The record of a request, and its reservation in the log.
-ghost use Rattle.std.specs.Prelude.{◌≡◌, ◌<◌, ◌==◌, IfOk, Some, length, option_map, slice_get};
+ghost use Rattle.std.specs.Prelude.{◌≡◌, ◌<◌, ◌==◌, ◌++◌, IfOk, OnOk, Some, length, option_map, slice_get};
+ghost use mathlib.Core.List.{IsPrefix};
+ghost use Rattle.journal_commit.specs.Clients.{of_client};
 ghost use Rattle.journal_entry.specs.Requests.{client_at};
 ghost use Rattle.server_state.specs.Client.{IsWithin};
 ghost use Rattle.mds_request.specs.Configuration.{configuration};
 ghost use Rattle.mds_request.specs.Request.{request_of};
 ghost use Rattle.mds_request.specs.declared.config.Actor.TheVariants.{Operator};
+ghost use Rattle.server_durable.specs.Owners.{IsOwnedBy, appended_by};
 ghost use Rattle.server_durable.specs.Records.{IsSettled, caller_of, record_by, sharer_of};
 ghost use Rattle.server_durable.specs.Refusals.{refusal_for};
 
 use crate::pending::NoResponse;
 use journal_commit::{
-    CommitFault, CommitLog, LogFailure, LogName, LogPosition, Reservation, ReserveFault, Space,
+    CommitFault, CommitLog, LogFailure, LogName, LogPosition, OwnRecords, Reservation,
+    ReserveFault, Space,
 };
 use journal_entry::{EntryClient, JournalEntry, entry_text};
 use journal_file::Log;
@@ -176,7 +180,8 @@ pub(crate) fn give_back<R: Wait, N: LogName, L: Log, S: Space>(
 }
 
 /// Appends the record of a request that was accepted, and releases the reservation of any other. It is called under the
-/// lock of the desk or room that answered with this status. Returns the log position of all that was appended by then.
+/// lock of the desk or room that answered with this status, by who has all the client's records before it. Returns the
+/// log position of all that was appended by then, which has all these records.
 ///
 /// # Errors
 ///
@@ -184,21 +189,25 @@ pub(crate) fn give_back<R: Wait, N: LogName, L: Log, S: Space>(
 pub(crate) fn append_or_release<R: Wait, N: LogName, L: Log, S: Space>(
     rt: &R,
     keeper: &CommitLog<N, L, S>,
-    nothing: &LogPosition<N, L>,
+    own: &mut OwnRecords<N, L>,
     reserved: CallReservation,
     status: u16,
 ) -> Result<LogPosition<N, L>, CommitFault>
-    ensures { IfOk result (IsSettled reserved status) }
+    requires { IsOwnedBy N.client_of own.old.client reserved }
+    ensures settled { IfOk result (IsSettled reserved status) }
+    ensures stamp { IfOk result (λ stamp. IsPrefix own.new.texts stamp) }
+    ensures records { OnOk result (of_client N.client_of own.old.client own.new.texts
+        ≡ of_client N.client_of own.old.client own.old.texts ++ appended_by reserved status) }
+    ensures client { own.new.client ≡ own.old.client }
 {
     match reserved {
-        CallReservation::Reads => Ok(keeper.log_position(nothing)),
+        CallReservation::Reads => {}
         CallReservation::Holds(place) => {
             if is_accepted(status) {
-                keeper.append(rt, place)
-            } else {
-                keeper.release(rt, place);
-                Ok(keeper.log_position(nothing))
+                return keeper.append(rt, own, place);
             }
+            keeper.release(rt, place);
         }
     }
+    Ok(keeper.log_position(own.position()))
 }

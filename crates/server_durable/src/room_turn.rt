@@ -14,9 +14,10 @@ ghost use Rattle.server_durable.specs.Records.{IsAmong, IsShown};
 
 mod record_commit;
 
+use crate::client_records::AuthorRecords;
 use crate::context::TurnRuntime;
 use crate::durable_hall::AnswerAtPosition;
-use journal_commit::{CommitFault, LogName, LogPosition, Space};
+use journal_commit::{CommitFault, LogName, Space};
 use journal_file::Log;
 use mds_desk::SharedReply;
 use mds_request::AuthorCall;
@@ -30,7 +31,7 @@ pub(crate) struct RoomTurn<T: RecordPayload, K: HallName, R, N: LogName, L: Log,
     answer: SharedReply,
     /// The note of the publication, where the turn made one.
     note: Option<Note<K>>,
-    recording: RecordCommit<T, R, N, L, S>,
+    recording: RecordCommit<T, K, R, N, L, S>,
 }
 
 impl<T: RecordPayload, K: HallName, R: TurnRuntime, N: LogName, L: Log, S: Space> RoomTurn<
@@ -48,7 +49,7 @@ impl<T: RecordPayload, K: HallName, R: TurnRuntime, N: LogName, L: Log, S: Space
         room: &mut HallRoom<K>,
         call: AuthorCall,
         heard: WholeRequest<'_>,
-        recording: RecordCommit<T, R, N, L, S>,
+        recording: RecordCommit<T, K, R, N, L, S>,
     ) -> RoomTurn<T, K, R, N, L, S>
         requires { call_of K.configuration (request_heard heard) ≡ Ok (ByAuthor call) }
         ensures turn { TakesRoomTurn (room_of (manually_drop_value room.old.room)) (request_heard heard.entry)
@@ -66,7 +67,8 @@ impl<T: RecordPayload, K: HallName, R: TurnRuntime, N: LogName, L: Log, S: Space
         }
     }
 
-    /// Completes the record of the turn, whose note is the latest of the hall from then on.
+    /// Completes the record of the turn, whose note is the latest of the hall from then on. The author's records are put
+    /// back, unless the log failed.
     ///
     /// # Errors
     ///
@@ -74,7 +76,7 @@ impl<T: RecordPayload, K: HallName, R: TurnRuntime, N: LogName, L: Log, S: Space
     pub(crate) fn complete(
         self,
         hall: &Hall<K>,
-        nothing: &LogPosition<N, L>,
+        back: &mut Option<AuthorRecords<K, N, L>>,
     ) -> Result<AnswerAtPosition<N, L>, CommitFault>
         ensures answer { IfOk result (λ answered. answered.answer ≡ self.answer) }
         ensures shown { IsShown L.may_be L.is_synced T.text self.recording.shown → IfOk result (λ answered. IsAmong T.text answered.stamp) }
@@ -87,7 +89,7 @@ impl<T: RecordPayload, K: HallName, R: TurnRuntime, N: LogName, L: Log, S: Space
             note,
             recording,
         } = self;
-        match recording.complete(hall, note, nothing, answer.status()) {
+        match recording.complete(hall, note, back, answer.status()) {
             Ok(stamp) => Ok(AnswerAtPosition { answer, stamp }),
             Err(fault) => Err(fault),
         }

@@ -1,11 +1,13 @@
 //! Group commit over a journal in memory whose calls fail from the Nth on.
-ghost use Rattle.std.specs.Prelude.{◌≡◌, ℕ, List};
+ghost use Rattle.std.specs.Prelude.{◌≡◌, ℕ, List, []};
+ghost use Rattle.tests_journal.specs.declared.commits.TheConstants.{AUTHOR};
 
 use crate::runtime::{JoinRuntime, TestRuntime};
 use futures::executor::block_on;
 use journal_commit::{
     AwaitSync, CommitFault, CommitLog, CountedSpace, FlushFault, LogName, LogPosition,
-    MOST_TEXTS_OF_ONE, ReserveFault, ResponseTiming, SharedLogName, UnnamedHistory, Usage, open,
+    MOST_TEXTS_OF_ONE, OwnRecords, ReserveFault, ResponseTiming, SharedLogName, UnnamedHistory,
+    Usage, open,
 };
 use journal_file::{AppendFault, Journal, Log, MemoryStorage};
 use std::alloc::{AllocError, AllocGlobal, Global};
@@ -19,6 +21,25 @@ const CLIENTS: usize = 6;
 
 /// The client, where there is one alone.
 const AUTHOR: usize = 1;
+
+/// The client of a log whose payloads are all its own.
+#[derive(Drop)]
+struct SoleClient<K: LogName, L: Log> {
+    own: OwnRecords<K, L>,
+    ghost is_alone: { (text : List ℕ) → K.client_of text ≡ own.client },
+}
+
+impl<K: LogName, L: Log> SoleClient<K, L> {
+    /// The author, who has appended nothing.
+    fn new(nothing: &LogPosition<K, L>) -> SoleClient<K, L>
+        requires clients { (text : List ℕ) → K.client_of text ≡ AUTHOR }
+        requires nothing { nothing.now ≡ [] }
+    {
+        SoleClient {
+            own: OwnRecords::new(AUTHOR, nothing),
+        }
+    }
+}
 
 /// Why no reservation is made for a payload of a client. One that is made is released.
 fn reserve_fault<K: LogName, L: Log, R: Wait>(
@@ -56,12 +77,13 @@ fn expect_fault<K: LogName, L: Log, R: TestRuntime>(
 fn reply_once_synced<K: LogName, L: Log, R: JoinRuntime>(
     rt: &R,
     keeper: &Arc<CommitLog<K, L, CountedSpace>>,
+    client: &mut SoleClient<K, L>,
     text: &[u8],
 ) -> Result<Result<u32, CommitFault>, Fail> {
     let Ok(place) = keeper.reserve(rt, AUTHOR, Vec::from_slice(rt.alloc(), text)?) else {
         return Ok(Err(CommitFault::NoMemory));
     };
-    let stamp = match keeper.append(rt, place) {
+    let stamp = match keeper.append(rt, &mut client.own, place) {
         Ok(stamp) => keeper.log_position(&stamp),
         Err(fault) => return Ok(Err(fault)),
     };
@@ -74,12 +96,13 @@ fn reply_once_synced<K: LogName, L: Log, R: JoinRuntime>(
 fn publish<K: LogName, L: Log, R: JoinRuntime>(
     rt: &R,
     keeper: &CommitLog<K, L, CountedSpace>,
+    client: &mut SoleClient<K, L>,
     text: &[u8],
 ) -> Result<Option<u64>, Fail> {
     match keeper.reserve(rt, AUTHOR, Vec::from_slice(rt.alloc(), text)?) {
         Ok(place) => Ok(
             keeper
-                .append_synced(rt, place)
+                .append_synced(rt, &mut client.own, place)
                 .ok()
                 .map(|stamp| stamp.len()),
         ),
@@ -99,10 +122,12 @@ struct ClientReplies {
 fn client_replies<K: LogName, L: Log, R: JoinRuntime>(
     rt: &R,
     keeper: &Arc<CommitLog<K, L, CountedSpace>>,
+    client: SoleClient<K, L>,
 ) -> Result<ClientReplies, Fail> {
+    let mut client = client;
     Ok(ClientReplies {
-        reply: reply_once_synced(rt, keeper, b"one")?,
-        published: publish(rt, keeper, b"two")?,
+        reply: reply_once_synced(rt, keeper, &mut client, b"one")?,
+        published: publish(rt, keeper, &mut client, b"two")?,
         is_free: keeper.has_share(
             rt,
             AUTHOR,
@@ -125,13 +150,14 @@ where
     L: Log + Send + Sync,
     R: JoinRuntime,
     requires book { opened.seen.book ≡ K.book }
+    requires clients { (text : List ℕ) → K.client_of text ≡ AUTHOR }
     requires listed { (first : List (List ℕ)) × L.may_be log first }
 {
     let space = CountedSpace {
         left: 100_000_000,
         aside: 0,
     };
-    let (keeper, flusher, _nothing) = open::<K, L, CountedSpace>(
+    let (keeper, flusher, nothing) = open::<K, L, CountedSpace>(
         rt.alloc(),
         opened,
         log,
@@ -139,11 +165,12 @@ where
         CLIENTS,
     )?;
     let keeper = Arc::new(rt.alloc(), keeper)?;
+    let client = SoleClient::new(&nothing);
     let (log, told) = join(
         rt,
         || flusher.run(rt, &keeper),
         || {
-            let told = client_replies(rt, &keeper);
+            let told = client_replies(rt, &keeper, client);
             keeper.stop(rt);
             told
         },
@@ -223,6 +250,7 @@ fn expect_bounds<K: LogName, L: Log, R: TestRuntime>(
     log: L,
 ) -> Result<(), Fail>
     requires book { opened.seen.book ≡ K.book }
+    requires clients { (text : List ℕ) → K.client_of text ≡ AUTHOR }
     requires listed { (first : List (List ℕ)) × L.may_be log first }
 {
     let space = CountedSpace { left: 59, aside: 0 };
@@ -242,7 +270,11 @@ fn expect_bounds<K: LogName, L: Log, R: TestRuntime>(
         return Err("a place".into());
     };
     expect_fault(rt, &keeper, AUTHOR, b"two", no_room);
-    let stamp = keeper.append(rt, place).ok().ok_or("a stamp")?;
+    let mut client = SoleClient::new(&nothing);
+    let stamp = keeper
+        .append(rt, &mut client.own, place)
+        .ok()
+        .ok_or("a stamp")?;
     assert!(rt; keeper.may_respond(&stamp) == ResponseTiming::Later && stamp.len() == 1);
     // What reads shows it too, and waits for it.
     assert!(rt; keeper.log_position(&nothing).len() == 1);
@@ -277,12 +309,14 @@ fn texts(rt: &impl AllocGlobal, count: usize) -> Result<Vec<Vec<u8>>, AllocError
 }
 
 /// Tries reservations of several records where there is room for two of three bytes, which take 118.
+#[tactic(auto, using(crate::proofs::Alone::all_are))]
 fn expect_settlement<K: LogName, L: Log, R: TestRuntime>(
     rt: &R,
     opened: UnnamedHistory<L>,
     log: L,
 ) -> Result<(), Fail>
     requires book { opened.seen.book ≡ K.book }
+    requires clients { (text : List ℕ) → K.client_of text ≡ AUTHOR }
     requires listed { (first : List (List ℕ)) × L.may_be log first }
 {
     let space = CountedSpace {
@@ -305,7 +339,8 @@ fn expect_settlement<K: LogName, L: Log, R: TestRuntime>(
     };
     let no_room = Some(ReserveFault::NoRoom);
     expect_fault(rt, &keeper, AUTHOR, b"one", no_room);
-    let stamp = keeper.append_chosen(rt, &nothing, places, &[false, true]);
+    let mut client = SoleClient::new(&nothing);
+    let stamp = keeper.append_chosen(rt, &mut client.own, &nothing, places, &[false, true]);
     assert!(rt; stamp.ok().map(|stamp| stamp.len()) == Some(1));
     expect_fault(rt, &keeper, AUTHOR, b"one", None);
     Ok(())
@@ -342,46 +377,48 @@ fn expect_shares_over_journal<R: TestRuntime>(rt: &R) -> Result<(), Fail> {
     expect_shares::<Brand, Journal<MemoryStorage>, R>(rt, opened, log)
 }
 
-/// Appends so many payloads of a client, which wait for the flusher, or returns why they aren't reserved.
+/// Appends so many payloads from the share of a client, which wait for the flusher, or returns why they aren't reserved.
+#[tactic(auto, using(crate::proofs::Alone::all_are))]
 fn append_waiting<K: LogName, L: Log, R: TestRuntime>(
     rt: &R,
     keeper: &CommitLog<K, L, CountedSpace>,
-    nothing: &LogPosition<K, L>,
-    client: usize,
+    sole: &mut SoleClient<K, L>,
+    share: usize,
     count: usize,
 ) -> Result<Option<ReserveFault>, AllocError> {
     let kept = vec![in rt.alloc(); true; count]?;
-    match keeper.reserve_all(rt, client, texts(rt, count)?) {
+    match keeper.reserve_all(rt, share, texts(rt, count)?) {
         Ok(places) => {
-            let _ = keeper.append_chosen(rt, nothing, places, &kept);
+            let known = sole.own.position().again();
+            let _ = keeper.append_chosen(rt, &mut sole.own, &known, places, &kept);
             Ok(None)
         }
         Err(fault) => Ok(Some(fault)),
     }
 }
 
-/// Checks why so many payloads of a client aren't reserved, or that they are, and wait for the flusher.
+/// Checks why so many payloads aren't reserved from the share of a client, or that they are, and wait for the flusher.
 fn expect_waiting<K: LogName, L: Log, R: TestRuntime>(
     rt: &R,
     keeper: &CommitLog<K, L, CountedSpace>,
-    nothing: &LogPosition<K, L>,
-    client: usize,
+    sole: &mut SoleClient<K, L>,
+    share: usize,
     count: usize,
     wanted: Option<ReserveFault>,
 ) {
-    let found = append_waiting(rt, keeper, nothing, client, count);
+    let found = append_waiting(rt, keeper, sole, share, count);
     assert!(rt; found.expect(rt, "memory") == wanted);
 }
 
-/// Checks that a client uses up its share.
+/// Checks that the share of a client can be used up.
 fn expect_full_share<K: LogName, L: Log, R: TestRuntime>(
     rt: &R,
     keeper: &CommitLog<K, L, CountedSpace>,
-    nothing: &LogPosition<K, L>,
-    client: usize,
+    sole: &mut SoleClient<K, L>,
+    share: usize,
 ) {
-    expect_waiting(rt, keeper, nothing, client, 4_096, None);
-    expect_fault(rt, keeper, client, b"one", Some(ReserveFault::Crowded));
+    expect_waiting(rt, keeper, sole, share, 4_096, None);
+    expect_fault(rt, keeper, share, b"one", Some(ReserveFault::Crowded));
 }
 
 /// Three clients use up their shares, and a fourth all but a reservation for each of two others.
@@ -391,6 +428,7 @@ fn expect_shares<K: LogName, L: Log, R: TestRuntime>(
     log: L,
 ) -> Result<(), Fail>
     requires book { opened.seen.book ≡ K.book }
+    requires clients { (text : List ℕ) → K.client_of text ≡ AUTHOR }
     requires listed { (first : List (List ℕ)) × L.may_be log first }
 {
     let space = CountedSpace {
@@ -404,18 +442,20 @@ fn expect_shares<K: LogName, L: Log, R: TestRuntime>(
         space,
         CLIENTS,
     )?;
+    let mut sole = SoleClient::new(&nothing);
+    let sole = &mut sole;
     let crowded = Some(ReserveFault::Crowded);
     let untaken = Some(ReserveFault::Untaken);
-    expect_waiting(rt, &keeper, &nothing, 1, 4_097, untaken);
-    expect_waiting(rt, &keeper, &nothing, CLIENTS, 1, crowded);
-    expect_full_share(rt, &keeper, &nothing, 1);
-    expect_full_share(rt, &keeper, &nothing, 2);
-    expect_full_share(rt, &keeper, &nothing, 3);
-    expect_waiting(rt, &keeper, &nothing, 4, 4_095, crowded);
-    expect_waiting(rt, &keeper, &nothing, 4, 4_094, None);
+    expect_waiting(rt, &keeper, sole, 1, 4_097, untaken);
+    expect_waiting(rt, &keeper, sole, CLIENTS, 1, crowded);
+    expect_full_share(rt, &keeper, sole, 1);
+    expect_full_share(rt, &keeper, sole, 2);
+    expect_full_share(rt, &keeper, sole, 3);
+    expect_waiting(rt, &keeper, sole, 4, 4_095, crowded);
+    expect_waiting(rt, &keeper, sole, 4, 4_094, None);
     // A reservation that was released can be made again.
     expect_fault(rt, &keeper, 5, b"one", None);
-    expect_waiting(rt, &keeper, &nothing, 5, 1, None);
+    expect_waiting(rt, &keeper, sole, 5, 1, None);
     expect_fault(rt, &keeper, 5, b"one", crowded);
     Ok(())
 }

@@ -1,9 +1,12 @@
 //! Commits a publication: its record is appended and synced before anybody sees it.
 ghost use Rattle.std.specs.Prelude.{◌≡◌, Err, None, IfOk, IfNone, IfSome, option_map};
+ghost use Rattle.std.proofs.Props.{props};
+ghost use Rattle.server_durable.specs.Owners.{IsOwnedBy};
 ghost use Rattle.journal_commit.specs.declared.commit_log.CommitFault.TheVariants as fault;
 ghost use Rattle.journal_commit.specs.declared.failure.LogFailure.{LogFailure};
 ghost use Rattle.server_durable.specs.Records.{IsAmong, IsShown, IsTitled, place_of};
 
+use crate::client_records::AuthorRecords;
 use crate::context::TurnRuntime;
 use crate::records::{CallReservation, append_or_release, give_back};
 use journal_commit::{CommitFault, CommitLog, LogName, LogPosition, Reservation, Space};
@@ -37,17 +40,20 @@ pub(crate) struct TitledReservation<T: RecordPayload> {
 
 /// Appends a request's record: before its publication is shown, if it publishes, and otherwise once the request was
 /// answered.
-pub(crate) struct RecordCommit<T: RecordPayload, R, N: LogName, L: Log, S: Space> {
+pub(crate) struct RecordCommit<T: RecordPayload, K: HallName, R, N: LogName, L: Log, S: Space> {
     rt: R,
     keeper: Arc<CommitLog<N, L, S>>,
+    /// The author's own records.
+    records: AuthorRecords<K, N, L>,
     /// The reservation, until the record is appended. A request that reads has none.
     pub(super) held: Option<TitledReservation<T>>,
     /// What the append before a publication gave: the log position of all that was synced then.
     pub(super) shown: Option<Result<LogPosition<N, L>, CommitFault>>,
+    ghost is_owned: { IfSome held (λ _. N.client_of T.text ≡ records.own.client) } by { Prim.hlevel props },
 }
 
-impl<T: RecordPayload, R: TurnRuntime, N: LogName, L: Log, S: Space> PublishGuard
-    for RecordCommit<T, R, N, L, S> {
+impl<T: RecordPayload, K: HallName, R: TurnRuntime, N: LogName, L: Log, S: Space> PublishGuard
+    for RecordCommit<T, K, R, N, L, S> {
     ghost use Rattle.server_durable.specs.Records.{IsShown};
 
     ghost given = { λ recording. IsShown L.may_be L.is_synced T.text recording.shown };
@@ -57,7 +63,10 @@ impl<T: RecordPayload, R: TurnRuntime, N: LogName, L: Log, S: Space> PublishGuar
             return false;
         };
         let TitledReservation { place, of: _ } = held;
-        match self.keeper.append_synced(&self.rt, place) {
+        match self
+            .keeper
+            .append_synced(&self.rt, &mut self.records.own, place)
+        {
             Ok(stamp) => {
                 self.shown = Some(Ok(stamp));
                 true
@@ -86,7 +95,8 @@ fn titled_reservation<T: RecordPayload>(reserved: CallReservation) -> Option<Tit
 
 /// What is still reserved.
 fn remaining_reservation<T: RecordPayload>(held: Option<TitledReservation<T>>) -> CallReservation
-    ensures { option_map (λ held. held.place) held ≡ place_of result }
+    ensures held { option_map (λ held. held.place) held ≡ place_of result }
+    ensures title { IsTitled T.text result }
 {
     match held {
         None => CallReservation::Reads,
@@ -97,37 +107,48 @@ fn remaining_reservation<T: RecordPayload>(held: Option<TitledReservation<T>>) -
     }
 }
 
-impl<T: RecordPayload, R: TurnRuntime, N: LogName, L: Log, S: Space> RecordCommit<T, R, N, L, S> {
-    /// A recording for a request that isn't answered yet.
+impl<T: RecordPayload, K: HallName, R: TurnRuntime, N: LogName, L: Log, S: Space> RecordCommit<
+    T,
+    K,
+    R,
+    N,
+    L,
+    S,
+> {
+    /// A recording for a request that isn't answered yet, with the author's own records.
     pub(crate) fn new(
         rt: R,
         keeper: Arc<CommitLog<N, L, S>>,
+        records: AuthorRecords<K, N, L>,
         reserved: CallReservation,
-    ) -> RecordCommit<T, R, N, L, S>
-        requires { IsTitled T.text reserved }
+    ) -> RecordCommit<T, K, R, N, L, S>
+        requires owned { IsOwnedBy N.client_of records.own.client reserved }
+        requires title { IsTitled T.text reserved }
         ensures held { option_map (λ held. held.place) result.held ≡ place_of reserved }
         ensures shown { result.shown ≡ None }
     {
         RecordCommit {
             rt,
             keeper,
+            records,
             held: titled_reservation(reserved),
             shown: None,
         }
     }
 
     /// Completes the record once the request was answered with this status. The note is the latest of the hall from
-    /// then on; where there is none, nothing was published. Returns the log position of all that the reply shows.
+    /// then on; where there is none, nothing was published. Returns the log position of all that the reply shows. The
+    /// author's own records are put back, unless the log failed.
     ///
     /// # Errors
     ///
     /// The log failed. It also fails where a record was appended for a publication that didn't happen: the log is ahead
     /// then.
-    pub(super) fn complete<K: HallName>(
+    pub(super) fn complete(
         self,
         hall: &Hall<K>,
         note: Option<Note<K>>,
-        nothing: &LogPosition<N, L>,
+        back: &mut Option<AuthorRecords<K, N, L>>,
         status: u16,
     ) -> Result<LogPosition<N, L>, CommitFault>
         ensures shown { IsShown L.may_be L.is_synced T.text self.shown → IfOk result (IsAmong T.text) }
@@ -137,6 +158,7 @@ impl<T: RecordPayload, R: TurnRuntime, N: LogName, L: Log, S: Space> RecordCommi
         let RecordCommit {
             rt,
             keeper,
+            mut records,
             held,
             shown,
         } = self;
@@ -145,11 +167,15 @@ impl<T: RecordPayload, R: TurnRuntime, N: LogName, L: Log, S: Space> RecordCommi
             hall.set_note(&rt, note);
         }
         let Some(shown) = shown else {
-            return append_or_release(&rt, &keeper, nothing, remaining_reservation(held), status);
+            let reserved = remaining_reservation(held);
+            let stamp = append_or_release(&rt, &keeper, &mut records.own, reserved, status)?;
+            *back = Some(records);
+            return Ok(stamp);
         };
         // Nothing is reserved any more.
         give_back(&rt, &keeper, remaining_reservation(held));
         if is_published {
+            *back = Some(records);
             return shown;
         }
         Err(CommitFault::Failed(keeper.fail(&rt)))

@@ -6,6 +6,7 @@ use Rattle.server_journal.specs.Starting.{IsStartedFrom}
 use Rattle.server_state.specs.Turn.{AreDesksOf}
 use Rattle.server_state.specs.TurnList.{opened_as}
 use Rattle.journal_recovery.specs.Recovery.{server_of}
+use Rattle.server_durable.proofs.Owning.{reads_clients}
 use Rattle.ruffletuff.proofs.Placed.{desks_of_server}
 use Rattle.ruffletuff.proofs.opening.serve_opening.Goals as goal
 
@@ -15,6 +16,9 @@ of-requires-clause-desks g c =
     let server = server_of c.in_ok-room.room c.in_ok-room.desks.items in
     subst (λ k. AreDesksOf k server.desks) c.requires.configured
     (desks_of_server (configuration c.args.config) server from.started.placed)
+
+pub persist_and_serve-requires-clause-clients : goal.persist_and_serve-requires-clause-clients
+persist_and_serve-requires-clause-clients g c κs within = reads_clients g.K.HallName.configuration
 
 pub persist_and_serve-requires-clause-listed : goal.persist_and_serve-requires-clause-listed
 persist_and_serve-requires-clause-listed g c κs within =

@@ -1,5 +1,6 @@
+use Rattle.tests_journal.specs.declared.commits.TheConstants.{AUTHOR}
 use Rattle.tests_journal.proofs.commits.expect_settlement_over_journal.Given as goal
 
--- the book of the log that was just opened
+-- the book of the log that was just opened, all of whose payloads are the author's
 abbrev pub ghosts-expect_settlement : goal.ghosts-expect_settlement
-ghosts-expect_settlement g a = record { book = a.opened.seen.book }
+ghosts-expect_settlement g a = record { book = a.opened.seen.book; client_of = λ text. AUTHOR }

@@ -1,5 +1,6 @@
+use Rattle.tests_journal.specs.declared.commits.TheConstants.{AUTHOR}
 use Rattle.tests_journal.proofs.commits.expect_shares_over_journal.Given as goal
 
--- the book of the log that was just opened
+-- the book of the log that was just opened, all of whose payloads are the author's
 abbrev pub ghosts-expect_shares : goal.ghosts-expect_shares
-ghosts-expect_shares g a = record { book = a.opened.seen.book }
+ghosts-expect_shares g a = record { book = a.opened.seen.book; client_of = λ text. AUTHOR }

@@ -1,5 +1,6 @@
+use Rattle.tests_journal.specs.declared.commits.TheConstants.{AUTHOR}
 use Rattle.tests_journal.proofs.commits.serve_over_journal.Given as goal
 
--- the book of the log that was just opened
+-- the book of the log that was just opened, all of whose payloads are the author's
 abbrev pub ghosts-serve_client : goal.ghosts-serve_client
-ghosts-serve_client g a = record { book = a.opened.seen.book }
+ghosts-serve_client g a = record { book = a.opened.seen.book; client_of = λ text. AUTHOR }

@@ -17,6 +17,7 @@ chunks-init g c =
           (reached_none g.K.HallName.configuration c.args.place c.again.result desk
           (record { configured = c.args.desk.now.configured; placed = c.args.desk.now.placed ∙ c.requires.place }));
       place = c.requires.place;
+      owner = c.requires.owner;
       within = omega arith;
     }
 
@@ -66,6 +67,7 @@ chunks-preserved g c =
           (subst (λ (texts : List (List ℕ)). Reached own place (map request_of (take done requests) ++ map request_of chunk)
           (c.chunks.replies.answers.items ++ c.in-Ok.further.answers.items) texts next) (sym told.1) reached));
       place = c.in-Ok.ensures.place ∙ c.chunks.invariant.place;
+      owner = c.in-Ok.ensures.owner ∙ c.chunks.invariant.owner;
       within = omega (arith, few, left, c.chunks.invariant.within);
     }
 

@@ -9,6 +9,7 @@ abbrev pub invariant-chunks : goal.invariant-chunks
 invariant-chunks g l = record {
   reached : Reached g.K.HallName.configuration l.fn.place (map request_of (take l.done l.requests)) l.replies.answers.items l.replies.stamp (state_of l.desk.desk);
   place : l.desk.place ≡ l.fn.place;
+  owner : l.records.place ≡ l.fn.place;
   within : l.done ≤ length l.requests;
 }
 

@@ -2,7 +2,9 @@ use Rattle.std.proofs.Common.{◌≡◌, ◌==◌, length, map, ap, ◌∙◌, a
 use Rattle.std.proofs.lemmas.List.{length-map}
 use Rattle.mds_request.specs.Request.{request_of}
 use Rattle.mds_request.specs.Reply.{Reply}
+use Rattle.mds_request.specs.declared.config.Actor.TheVariants.{Operator}
 use Rattle.mds_desk.specs.Desk.{state_of}
+use Rattle.server_durable.proofs.Owning.{owned_still}
 use Rattle.server_durable.proofs.Reports.{as_many_told, settled_are_recorded}
 use Rattle.server_durable.proofs.durable_hall.DurableHall.carry_out_reserved.Goals as goal
 
@@ -15,6 +17,15 @@ push_flags-requires-clause-room g c =
     let asked : length requests ≡ length c.args.requests.now = length-map c.args.requests.now request_of in
     let answered : length c.deref-2.result.now ≡ length replies = ap length c.deref-2.ensures.value in
     omega (arith, many, asked, answered, c.in-Ok.ensures.exact)
+
+pub invariant_of-records : goal.invariant_of-records
+invariant_of-records g c =
+    let mine = c.args.records.now in
+    record {
+      owned =
+          owned_still g.K.HallName.configuration g.N.LogName.client_of (Operator mine.place) mine.own.client c.append_chosen.new.own.client mine.owned
+          c.append_chosen.ensures.client;
+    }
 
 pub returns-clause-continues : goal.returns-clause-continues
 returns-clause-continues g c =
