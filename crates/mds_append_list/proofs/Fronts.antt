@@ -1,6 +1,6 @@
 -- Prefixes of one list.
 use Rattle.std.proofs.lemmas.Bool.Decides.{nat_tests}
-use Rattle.std.proofs.Common.{◌≡◌, ℕ, ◌≤◌, Bool, true, nat_le, List, [], ◌∷◌, ◌++◌, length, refl, ap, sym, ◌∙◌, subst, arith, append_assoc, length-append}
+use Rattle.std.proofs.Common.{◌≡◌, ℕ, ◌≤◌, ◌<◌, ◌==◌, Bool, true, false, nat_le, MatchBool, List, [], ◌∷◌, ◌++◌, length, refl, ap, sym, ◌∙◌, subst, arith, append_assoc, length-append}
 use Rattle.std.proofs.lemmas.List.{append-nil}
 use mathlib.Core.List.{IsPrefix}
 
@@ -34,3 +34,17 @@ pub front_of : {A : Type 0} (mine other again both : List A) (n m : ℕ) → n �
 front_of {A} mine other again both n m len len' same p q is =
     let least : n ≤ m = grind (arith, nat_tests) in
     prefix_shorter mine other both (subst (λ (xs : List A). IsPrefix xs both) same p) q (omega (arith, len, len', least))
+
+-- one that is longer isn't
+pub shorter : {A : Type 0} (mine other : List A) (n m : ℕ) → n ≡ length mine → m ≡ length other → nat_le n m ≡ false → length other < length mine
+shorter mine other n m len len' is =
+    let more : m < n = grind (arith, nat_tests) in
+    omega (arith, len, len', more)
+
+-- a list whose length isn't the one that was expected of what was seen of it is longer
+pub longer : {A : Type 0} (P : Type 0) (mine all : List A) (count found : ℕ) → count ≡ length mine → IsPrefix mine all
+    → MatchBool (found == count) P (length all ≡ found) → (found == count) ≡ false → length mine < length all
+longer {A} P mine all count found counted pre step apart =
+    let long : length all ≡ found = subst (λ (b : Bool). MatchBool b P (length all ≡ found)) apart step in
+    let more : length mine ≤ length all = omega (arith, sym (ap length pre.1) ∙ length-append mine pre.0) in
+    grind (arith, nat_tests)

@@ -1,5 +1,5 @@
 //! The list, its word, and the prefixes of it that were seen.
-ghost use Rattle.std.specs.Prelude.{◌≡◌, ◌+◌, ◌<◌, ◌^◌, ◌++◌, ◌∷◌, [], length, true};
+ghost use Rattle.std.specs.Prelude.{◌≡◌, ◌+◌, ◌<◌, ◌^◌, ◌++◌, ◌∷◌, [], length, false, true};
 ghost use mathlib.Core.List.{IsPrefix};
 ghost use Rattle.mds_append_list.specs.AppendList.{head_of};
 
@@ -99,10 +99,11 @@ impl<E> ListFront<E> {
         }
     }
 
-    /// Whether the other prefix of the same list begins with it.
+    /// Whether the other prefix of the same list begins with it, as it does where it isn't shorter.
     pub fn begins(&self, other: &ListFront<E>) -> bool
         requires { other.now.seen.book ≡ self.now.seen.book }
-        ensures { result ≡ true → IsPrefix self.now.seen.log other.now.seen.log }
+        ensures begins { result ≡ true → IsPrefix self.now.seen.log other.now.seen.log }
+        ensures shorter { result ≡ false → length other.now.seen.log < length self.now.seen.log }
     {
         let mut both = self.seen.again();
         both.learn(&other.seen);
@@ -116,6 +117,7 @@ impl<E> ListFront<E> {
         requires room { length self.old.seen.log < 2 ^ 62 }
         ensures book { self.new.seen.book ≡ self.old.seen.book }
         ensures added { result ≡ true → self.new.seen.log ≡ self.old.seen.log ++ M.ask about.now ∷ [] }
+        ensures longer { result ≡ false → length self.old.seen.log < length self.new.seen.log }
     {
         let mut offer: Offer<E, u64, ListRule, NoListGain> = self
             .seen

@@ -205,6 +205,7 @@ impl<K: HallName> HallDesk<K> {
     /// The turns of this desk so far. They aren't given where one isn't in the list, which doesn't
     /// happen.
     pub fn turns(&self) -> Option<DeskTurns<K>>
+        ensures given { self.now.is_lost ≡ false → IsSome result }
         ensures place { IfSome result (λ turns. turns.place ≡ self.now.place) }
         ensures whole { IfSome result (λ turns. (self.now.is_lost ≡ false) × (turns.front.seen.log ≡ self.now.turns.front.seen.log)) }
         ensures turns { IfSome result (λ turns. ∥ AreTurnsOf K.configuration turns.place turns.front.seen.log (state_of self.now.desk) ∥₁) }

@@ -1,12 +1,13 @@
 //! The list of a desk's turns. It exists in the proofs alone: what is shared is one word, its
 //! length.
-ghost use Rattle.std.specs.Prelude.{◌≡◌, ◌++◌, ◌∷◌, [], IfSome, map, true};
+ghost use Rattle.std.specs.Prelude.{◌≡◌, ◌<◌, ◌++◌, ◌∷◌, [], IfSome, false, length, map, true};
 ghost use mathlib.Core.List.{IsPrefix};
 ghost use Rattle.mds_append_list.specs.AppendList.{head_of};
 ghost use Rattle.mds_request.specs.Request.{request_of};
 ghost use Rattle.mds_desk.specs.Desk.{state_of};
 ghost use Rattle.server_state.specs.TurnItem.{Answered, Ran};
 ghost use Rattle.server_state.specs.TurnList.{opened_as};
+ghost use Rattle.server_state.specs.declared.turn_list.TheConstants.{MOST_TURNS};
 
 use crate::hall_name::HallName;
 use mds_append_list::{ListFront, ListHead, NewList, Plain};
@@ -192,6 +193,7 @@ impl<K: HallName> TurnList<K> {
     /// Adds a turn, and returns whether it did, as it always does.
     pub(crate) fn add(&mut self, request: &Request<'_>, reply: &SharedReply) -> bool
         ensures place { self.new.place ≡ self.old.place }
+        ensures longer { result ≡ false → length self.old.front.seen.log < MOST_TURNS → length self.old.front.seen.log < length self.new.front.seen.log }
         ensures added { result ≡ true → self.new.front.seen.log ≡ self.old.front.seen.log ++ Answered (request_of request.now) reply.now ∷ [] }
     {
         if self.front.len() >= MOST_TURNS {
@@ -205,6 +207,7 @@ impl<K: HallName> TurnList<K> {
     /// Adds a run of turns, and returns whether it did, as it always does.
     pub(crate) fn add_run(&mut self, requests: &[Request<'_>], replies: &Vec<SharedReply>) -> bool
         ensures place { self.new.place ≡ self.old.place }
+        ensures longer { result ≡ false → length self.old.front.seen.log < MOST_TURNS → length self.old.front.seen.log < length self.new.front.seen.log }
         ensures added { result ≡ true → self.new.front.seen.log ≡ self.old.front.seen.log ++ Ran (map request_of requests.now) replies.now.items ∷ [] }
     {
         if self.front.len() >= MOST_TURNS {
@@ -239,9 +242,17 @@ pub struct DeskTurns<K: HallName> {
 }
 
 impl<K: HallName> DeskTurns<K> {
-    /// Whether others are of the same desk and begin with these.
+    /// How many items of the list they are, with the one that opened it.
+    pub fn len(&self) -> u64
+        ensures { result ≡ length self.now.front.seen.log }
+    {
+        self.front.len()
+    }
+
+    /// Whether others are of the same desk and begin with these, as they do where they aren't fewer.
     pub fn begins(&self, other: &DeskTurns<K>) -> bool
         ensures place { result ≡ true → self.now.place ≡ other.now.place }
+        ensures fewer { self.now.place ≡ other.now.place → result ≡ false → length other.now.front.seen.log < length self.now.front.seen.log }
         ensures begins { result ≡ true → IsPrefix self.now.front.seen.log other.now.front.seen.log }
     {
         if self.place != other.place {

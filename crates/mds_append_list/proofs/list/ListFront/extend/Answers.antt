@@ -1,5 +1,6 @@
 use Rattle.std.proofs.Common.{sym, ◌∙◌, ap}
 use Rattle.mds_append_list.proofs.Adding.{adds_moves}
+use Rattle.mds_append_list.proofs.Fronts.{longer}
 use Rattle.mds_append_list.proofs.list.ListFront.extend.Goals as goal
 
 pub compare_exchange-found-requires : goal.compare_exchange-found-requires
@@ -14,3 +15,9 @@ compare_exchange-found-requires g c =
       offer.0,
       rw (ap (λ w. w.key) h, pen.1, offer.1) (adds_moves c.plain-offer.result.state s.seen.log _ s.count (sym s.counted)),
     )
+
+pub returns-clause-longer : goal.returns-clause-longer
+returns-clause-longer g c = λ is.
+    let s = c.args.self.now in
+    let found = c.compare_exchange-found in
+    longer _ s.seen.log found.new.seen.log s.count found.result s.counted found.ensures.6 found.ensures.7 is
