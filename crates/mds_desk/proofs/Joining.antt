@@ -26,12 +26,12 @@ last_below a b z (turn ∷ turns) ab bz = bz
 
 module _ (operator : Operator) where
   -- turns that lead from one desk to another, with these requests and replies
-  record Leads (d : DeskState) (requests : List Request) (replies : List Reply) (next : DeskState) : Type 0 where
-    turns : List Turn
-    are : AreTurns d.configuration d.place operator d.known d.rows turns next.rows
-    asks : requests_in turns ≡ requests
-    tells : replies_in turns ≡ replies
-    last : IsPrefix (last_front d.known turns) next.known
+  pub record Leads (d : DeskState) (requests : List Request) (replies : List Reply) (next : DeskState) : Type 0 where
+    pub turns : List Turn
+    pub are : AreTurns d.configuration d.place operator d.known d.rows turns next.rows
+    pub asks : requests_in turns ≡ requests
+    pub tells : replies_in turns ≡ replies
+    pub last : IsPrefix (last_front d.known turns) next.known
 
   -- the operator is found at the same desk
   found_on : (d between : DeskState) → IsSameDesk d between → slice_get d.configuration.operators d.place ≡ Some operator → slice_get between.configuration.operators between.place ≡ Some operator
@@ -52,7 +52,8 @@ module _ (operator : Operator) where
             (last_below (last_front d.known first.turns) between.known next.known then.turns first.last then.last);
       }
 
-  leads : (d : DeskState) (events : List Event) (next : DeskState) → slice_get d.configuration.operators d.place ≡ Some operator → Becomes d events next → Leads d (asked_in events) (told_in events) next
+  -- the calls on a desk are turns of it
+  pub leads : (d : DeskState) (events : List Event) (next : DeskState) → slice_get d.configuration.operators d.place ≡ Some operator → Becomes d events next → Leads d (asked_in events) (told_in events) next
   leads d [] next found is =
       record { turns = []; are = ap (λ d. d.rows) is; asks = refl; tells = refl; last = subst (IsPrefix d.known) (sym (ap (λ d. d.known) is)) (prefix_self d.known) }
   leads d (answered request reply ∷ events) next found (between, takes, rest) =

@@ -1,4 +1,4 @@
-mod Joining
+pub mod Joining
 pub mod Crossing
 pub mod Desks
 pub mod Made
