@@ -2,7 +2,7 @@
 ghost use Rattle.std.specs.Prelude.{◌≡◌, ◌<◌};
 ghost use Rattle.mds_request.specs.Configuration.{configuration};
 ghost use Rattle.mds_snapshot.specs.Opening.{book_of};
-ghost use Rattle.server_state.specs.TurnLists.{books_of};
+ghost use Rattle.server_state.specs.TurnLists.{books_of, room_book_of};
 
 use crate::arguments::{Arguments, read_words};
 use crate::configuration::read_configuration;
@@ -77,6 +77,7 @@ fn open<K: SharedHallName, R: ServerRuntime>(
     requires book { book_of blank ≡ K.book }
     requires configured { configuration config ≡ K.configuration }
     requires turns { books_of lists ≡ K.turns }
+    requires room_turns { room_book_of lists ≡ K.room_turns }
 {
     let queues = Queues::new(rt.alloc(), &config)?;
     let processors = available_parallelism(rt).map_or(1, |n| n.get());

@@ -2,7 +2,7 @@
 ghost use Rattle.std.specs.Prelude.{◌≡◌, ℕ, List, IfOk};
 ghost use Rattle.mds_request.specs.Configuration.{configuration};
 ghost use Rattle.mds_snapshot.specs.Opening.{book_of};
-ghost use Rattle.server_state.specs.TurnLists.{books_of};
+ghost use Rattle.server_state.specs.TurnLists.{books_of, room_book_of};
 ghost use Rattle.journal_recovery.specs.Recovery.{server_of};
 ghost use Rattle.server_journal.specs.Starting.{IsStartedFromLog};
 
@@ -330,6 +330,7 @@ where
     requires book { book_of opened.0 ≡ K.book }
     requires configured { configuration config ≡ K.configuration }
     requires turns { books_of opened.1 ≡ K.turns }
+    requires room_turns { room_book_of opened.1 ≡ K.room_turns }
     requires listed { (first : List (List ℕ)) × L.may_be log first }
     requires space { S.aside space ≡ 0 }
 {

@@ -12,6 +12,8 @@ use Rattle.mds_snapshot.proofs.note.Note.TheSendSync as note
 use Rattle.server_state.specs.declared.hall_name.HallName.{Ghosts as Names}
 use Rattle.server_state.proofs.turn_list.TurnList.TheSendSync as list
 use Rattle.server_state.proofs.turn_list.DeskTurns.TheSendSync as turns
+use Rattle.server_state.proofs.room_turns.RoomTurnList.TheSendSync as room_list
+use Rattle.server_state.proofs.room_turns.RoomTurns.TheSendSync as room_turns
 use Rattle.server_state.specs.contracts.locks.HallDesk as HallDesk
 use Rattle.server_state.specs.contracts.locks.DeskLock as DeskLock
 use Rattle.server_state.specs.contracts.locks.HallRoom as HallRoom
@@ -27,7 +29,8 @@ module _ (K : RattleType) (n : Names K.Denot) (g : Ghosts K.Denot) where
   room_crosses : IsSend (HallRoom.the_row K n g)
   room_crosses =
       let r = room_send K g in
-      declared_send (HallRoom.the_type K n g) (search (sendable, crosses) depth 20, tt)
+      let t = room_list.the_send K n g in
+      declared_send (HallRoom.the_type K n g) (search (sendable, crosses) depth 20, (search (sendable, crosses) depth 20, (search (sendable, crosses) depth 20, tt)))
 
   lock_send : IsSend (DeskLock.the_row K n g)
   lock_send =
@@ -50,8 +53,9 @@ module _ (K : RattleType) (n : Names K.Denot) (g : Ghosts K.Denot) where
       let d = lock_send in
       let r = room_crosses in
       let t = note.the_send K g in
+      let o = room_turns.the_send K n g in
       declared_send (Hall.the_type K n g)
-      (search (sendable, crosses) depth 20, (search (sendable, crosses) depth 20, (search (sendable, crosses) depth 20, (search (sendable, crosses) depth 20, (search (sendable, crosses) depth 20, tt)))))
+      (search (sendable, crosses) depth 20, (search (sendable, crosses) depth 20, (search (sendable, crosses) depth 20, (search (sendable, crosses) depth 20, (search (sendable, crosses) depth 20, (search (sendable, crosses) depth 20, tt))))))
 
   pub hall_sync : IsSync (Hall.the_row K n g)
   hall_sync =
@@ -62,5 +66,6 @@ module _ (K : RattleType) (n : Names K.Denot) (g : Ghosts K.Denot) where
       let d = lock_sync in
       let r = room_crosses in
       let t = note.the_send K g in
+      let o = room_turns.the_sync K n g in
       declared_sync (Hall.the_type K n g)
-      (search (sendable, crosses) depth 20, (search (sendable, crosses) depth 20, (search (sendable, crosses) depth 20, (search (sendable, crosses) depth 20, (search (sendable, crosses) depth 20, tt)))))
+      (search (sendable, crosses) depth 20, (search (sendable, crosses) depth 20, (search (sendable, crosses) depth 20, (search (sendable, crosses) depth 20, (search (sendable, crosses) depth 20, (search (sendable, crosses) depth 20, tt))))))

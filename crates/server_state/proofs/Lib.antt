@@ -1,5 +1,6 @@
 pub mod Clients
 pub mod Halls
+mod ListedRoomTurns
 mod ListedTurns
 mod Outcomes
 mod Placing

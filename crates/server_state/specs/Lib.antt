@@ -11,3 +11,4 @@ pub mod TurnItem
 pub mod TurnList
 pub mod TurnBooks
 pub mod TurnLists
+pub mod RoomTurns

@@ -7,20 +7,22 @@ ghost use Rattle.mds_request.specs.Call.{call_of};
 ghost use Rattle.mds_request.specs.Configuration.{configuration, actor_of};
 ghost use Rattle.mds_request.specs.declared.call.Call.TheVariants.{Author as ByAuthor};
 ghost use Rattle.mds_desk.specs.Desk.{state_of};
-ghost use Rattle.mds_desk.specs.Room.{room_of};
+ghost use Rattle.mds_desk.specs.Room.{held_in, room_of};
 ghost use Rattle.mds_snapshot.specs.Opening.{book_of};
 ghost use Rattle.server_state.specs.HttpRequest.{token_of};
 ghost use Rattle.server_state.specs.Client.{IsWithin};
 ghost use Rattle.server_state.specs.WholeRequest.{request_heard};
 ghost use Rattle.server_state.specs.Resolved.{call_in};
 ghost use Rattle.server_state.specs.Turn.{AreDesksOf, RoomReplies};
+ghost use Rattle.server_state.specs.RoomTurns.{room_opened_as};
 ghost use Rattle.server_state.specs.TurnList.{AreTurnsOf, opened_as};
-ghost use Rattle.server_state.specs.TurnLists.{books_of};
+ghost use Rattle.server_state.specs.TurnLists.{books_of, room_book_of};
 
 use crate::hall_name::HallName;
 use crate::http_request::{head_request, token};
 use crate::locks::{DeskLock, EndedDesk, HallDesk, HallRoom};
 use crate::resolved::ResolvedCall;
+use crate::room_turns::{RoomTurnList, RoomTurns};
 use crate::turn_list::{NamedTurnLists, TurnLists};
 use crate::whole_request::WholeRequest;
 use http::request::Parts;
@@ -39,6 +41,8 @@ use std::sync::{Arc, Mutex, MutexGuard, Wait};
 pub struct Hall<K: HallName> {
     config: Arc<Config>,
     routes: Arc<Routes>,
+    /// The list of the room's turns as the room was put behind its lock.
+    room_opening: RoomTurns<K>,
     room: Mutex<HallRoom<K>>,
     desks: Vec<DeskLock<K>>,
     latest: Mutex<Option<Note<K>>>,
@@ -107,6 +111,7 @@ impl<K: HallName> Hall<K> {
         requires book { book_of blank ≡ K.book }
         requires configured { configuration config ≡ K.configuration }
         requires turns { books_of lists ≡ K.turns }
+        requires room_turns { room_book_of lists ≡ K.room_turns }
         ensures { IfOk result (λ hall. configuration hall.config.value ≡ configuration config) }
     {
         let (room, desks) = furnish::<K, R>(rt, alloc, config, blank)?;
@@ -114,7 +119,7 @@ impl<K: HallName> Hall<K> {
     }
 
     /// A hall over this room and these desks, all of one opening, with an empty list for the turns of
-    /// each desk. They may have answered requests before, which stand in no list.
+    /// the room and of each desk. They may have answered requests before, which stand in no list.
     ///
     /// # Errors
     ///
@@ -129,19 +134,23 @@ impl<K: HallName> Hall<K> {
         requires room { (room_of room).configuration ≡ K.configuration }
         requires desks { AreDesksOf K.configuration (map state_of desks.items) }
         requires turns { books_of lists ≡ K.turns }
+        requires room_turns { room_book_of lists ≡ K.room_turns }
         ensures configured { IfOk result (λ hall. configuration hall.config.value ≡ K.configuration) }
+        ensures room_opened { IfOk result (λ hall. hall.room_opening.front.seen.log ≡ room_opened_as (held_in (room_of room))) }
         ensures opened { IfOk result (λ hall. map (λ desk. desk.opening.front.seen.log) hall.desks.items ≡ map (λ desk. opened_as (state_of desk)) desks.items) }
     {
-        let mut lists = NamedTurnLists::new(lists);
+        let (mut lists, list) = NamedTurnLists::new(lists);
         match (
             room.configuration(),
             room.routes(),
+            RoomTurnList::open(list, &room),
             lock_each(alloc, desks, &mut lists),
         ) {
-            (Ok(config), Ok(routes), Ok(desks)) => Ok(Hall {
+            (Ok(config), Ok(routes), Some(turns), Ok(desks)) => Ok(Hall {
                 config,
                 routes,
-                room: Mutex::new(HallRoom::new(room)),
+                room_opening: turns.turns(),
+                room: Mutex::new(HallRoom::new(room, turns)),
                 desks,
                 latest: Mutex::new(None),
             }),
@@ -225,6 +234,13 @@ impl<K: HallName> Hall<K> {
         }
     }
 
+    /// The list of the room's turns as the room was put behind its lock.
+    pub fn room_opening(&self) -> &RoomTurns<K>
+        ensures { result.now ≡ self.now.room_opening }
+    {
+        &self.room_opening
+    }
+
     /// The author's room, once its lock is taken.
     pub fn room<R: Wait>(&self, rt: &R) -> MutexGuard<'_, HallRoom<K>> {
         self.room.lock(rt)
@@ -278,6 +294,7 @@ impl<K: HallName> Hall<K> {
         let Self {
             config: _config,
             routes: _routes,
+            room_opening: _room_opening,
             room,
             desks,
             latest: _latest,

@@ -1,13 +1,13 @@
-//! Names the opening and the configuration of a hall, and the list of each desk's turns, in the
-//! proofs.
+//! Names the opening and the configuration of a hall, and the lists of turns of each desk and of the
+//! author's room, in the proofs.
 
 use mds_snapshot::OpeningName;
 use std::marker::Brand;
 
-/// Names the opening and the configuration of a hall, and the list of each desk's turns: all that
-/// lies behind its locks belongs to them. A program passes what it opens to a function that is
-/// generic over this, and calls it with `Brand`; the proof of that call picks the `Blank`'s book,
-/// the configuration and the books of the `TurnLists`.
+/// Names the opening and the configuration of a hall, and the lists of turns of each desk and of the
+/// author's room: all that lies behind its locks belongs to them. A program passes what it opens to a
+/// function that is generic over this, and calls it with `Brand`; the proof of that call picks the
+/// `Blank`'s book, the configuration and the books of the `TurnLists`.
 pub trait HallName: OpeningName {
     ghost use Rattle.std.specs.Prelude.{ℕ};
     ghost use Rattle.logbook.specs.Pages.{Book};
@@ -16,6 +16,8 @@ pub trait HallName: OpeningName {
     ghost configuration: { Configuration };
 
     ghost turns: { ℕ → Book };
+
+    ghost room_turns: { Book };
 }
 
 /// The name of a hall that several threads have. `Brand` alone has it, so that the proof of a call
@@ -31,4 +33,6 @@ impl HallName for Brand {
     ghost configuration = { record { author = []; operators = []; zone = fixed (pos 0) } };
 
     ghost turns = { λ place. record { number = 0; log_name = 0; cells_name = 0 } };
+
+    ghost room_turns = { record { number = 0; log_name = 0; cells_name = 0 } };
 }

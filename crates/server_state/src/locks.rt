@@ -9,7 +9,8 @@ ghost use Rattle.mds_request.specs.Request.{request_of};
 ghost use Rattle.mds_request.specs.Reply.{refused};
 ghost use Rattle.mds_request.specs.declared.call.Call.TheVariants.{Author as ByAuthor, Operator as OperatorAt};
 ghost use Rattle.mds_request.specs.declared.code.Code.TheVariants.{NoMemory, NoSnapshot};
-ghost use Rattle.mds_desk.specs.Room.{room_of, TakesRoomTurn};
+ghost use Rattle.mds_desk.specs.Room.{held_in, room_of, TakesRoomTurn};
+ghost use Rattle.server_state.specs.RoomTurns.{AreRoomTurnsOf, room_opened_as};
 ghost use Rattle.server_state.specs.WholeRequest.{request_heard};
 ghost use Rattle.server_state.specs.Query.{DeskTells, Looks, RoomTells};
 ghost use Rattle.server_state.specs.Turn.{DeskReplies, DeskRuns, IsDeskAt, IsTold, RoomReplies, TakesToldRun, TakesToldTurn};
@@ -17,6 +18,7 @@ ghost use Rattle.server_state.specs.TurnItem.{Answered, Ran};
 ghost use Rattle.server_state.specs.TurnList.{AreTurnsOf, opened_as};
 
 use crate::hall_name::HallName;
+use crate::room_turns::{RoomTurnList, RoomTurns};
 use crate::turn::{query_desk, take_call_turn, take_run, take_turn};
 use crate::turn_list::{DeskTurns, LoggedTurn, TurnList};
 use crate::whole_request::WholeRequest;
@@ -321,20 +323,28 @@ impl<K: HallName> DeskLock<K> {
     }
 }
 
-/// The author's room of the configuration that `K` names.
+/// The author's room of the configuration that `K` names, with the list of its turns since it was
+/// put behind its lock.
 #[derive(Drop)]
 pub struct HallRoom<K: HallName> {
     room: ManuallyDrop<AuthorRoom<K>>,
+    turns: RoomTurnList<K>,
+    /// A turn isn't in the list, and no later one is told. It doesn't happen.
+    is_lost: bool,
     ghost configured: { (room_of (manually_drop_value room)).configuration ≡ K.configuration },
+    ghost listed: { ∥ (is_lost ≡ false → AreRoomTurnsOf K.configuration turns.front.seen.log (room_of (manually_drop_value room))) ∥₁ },
 }
 
 impl<K: HallName> HallRoom<K> {
-    /// Wraps a room. It has to be ended by `finish`.
-    pub(crate) fn new(room: AuthorRoom<K>) -> HallRoom<K>
-        requires { (room_of room).configuration ≡ K.configuration }
+    /// Wraps a room, with its list. It has to be ended by `finish`.
+    pub(crate) fn new(room: AuthorRoom<K>, turns: RoomTurnList<K>) -> HallRoom<K>
+        requires room { (room_of room).configuration ≡ K.configuration }
+        requires turns { turns.front.seen.log ≡ room_opened_as (held_in (room_of room)) }
     {
         HallRoom {
             room: unsafe { ManuallyDrop::new_unchecked(room) },
+            turns,
+            is_lost: false,
         }
     }
 
@@ -352,9 +362,12 @@ impl<K: HallName> HallRoom<K> {
         ensures replies { RoomReplies K.configuration (request_heard heard.entry) result.0 }
         ensures given { IfSome result.1 (λ list. L.given leave.new) }
         ensures asked { (leave.new ≡ leave.old) ⊎ (IsSome result.1 ⊎ (result.0 ≡ refused NoMemory)) }
+        ensures listed { self.new.is_lost ≡ false → self.new.turns.front.seen.log ≡ self.old.turns.front.seen.log ++ Answered (request_heard heard.entry) result.0 ∷ [] }
     {
         let request = heard.request();
-        self.room.answer_with(rt, &request, leave)
+        let (reply, note) = self.room.answer_with(rt, &request, leave);
+        self.is_lost = self.is_lost | !self.turns.add(&request, &reply);
+        (reply, note)
     }
 
     /// The same for a call of the author, that of the request.
@@ -371,9 +384,12 @@ impl<K: HallName> HallRoom<K> {
         ensures replies { RoomReplies K.configuration (request_heard heard.entry) result.0 }
         ensures given { IfSome result.1 (λ list. L.given leave.new) }
         ensures asked { (leave.new ≡ leave.old) ⊎ (IsSome result.1 ⊎ (result.0 ≡ refused NoMemory)) }
+        ensures listed { self.new.is_lost ≡ false → self.new.turns.front.seen.log ≡ self.old.turns.front.seen.log ++ Answered (request_heard heard.entry) result.0 ∷ [] }
     {
         let request = heard.request();
-        self.room.carry_out(rt, &request, call, leave)
+        let (reply, note) = self.room.carry_out(rt, &request, call, leave);
+        self.is_lost = self.is_lost | !self.turns.add(&request, &reply);
+        (reply, note)
     }
 
     /// Answers a query of the drafts and of what is published. Nothing changes.
@@ -389,9 +405,27 @@ impl<K: HallName> HallRoom<K> {
         self.room.run_query(telling)
     }
 
+    /// The turns of the room so far. They aren't given where one isn't in the list, which doesn't
+    /// happen.
+    pub fn turns(&self) -> Option<RoomTurns<K>>
+        ensures given { self.now.is_lost ≡ false → IsSome result }
+        ensures whole { IfSome result (λ turns. (self.now.is_lost ≡ false) × (turns.front.seen.log ≡ self.now.turns.front.seen.log)) }
+        ensures turns { IfSome result (λ turns. ∥ AreRoomTurnsOf K.configuration turns.front.seen.log (room_of (manually_drop_value self.now.room)) ∥₁) }
+    {
+        if !self.is_lost {
+            Some(self.turns.turns())
+        } else {
+            None
+        }
+    }
+
     /// Ends the room.
     pub(crate) fn finish<R: Wait>(self, rt: &R) {
-        let Self { room } = self;
+        let Self {
+            room,
+            turns: _turns,
+            is_lost: _is_lost,
+        } = self;
         ManuallyDrop::into_inner(room).finish(rt);
     }
 }

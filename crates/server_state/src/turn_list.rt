@@ -18,7 +18,7 @@ use std::alloc::{AllocError, Global};
 use std::marker::{Model, PhantomData};
 
 /// No list gets longer than this: a desk that took a turn each nanosecond would need a lifetime.
-const MOST_TURNS: u64 = 1 << 61;
+pub(crate) const MOST_TURNS: u64 = 1 << 61;
 
 /// A turn, or a run of turns, which contracts see as an item of the list. No value of this type
 /// exists at run time.
@@ -53,8 +53,8 @@ impl<K: OpeningName> Plain<Desk<K>, LoggedTurn, u64> for OpenedItem {
 /// A request, and the reply to it.
 #[derive(Drop)]
 pub struct AnsweredRequest<'a> {
-    request: &'a Request<'a>,
-    reply: &'a SharedReply,
+    pub(crate) request: &'a Request<'a>,
+    pub(crate) reply: &'a SharedReply,
 }
 
 /// The step that adds a turn.
@@ -90,14 +90,16 @@ impl<'a> Plain<AnsweredRequests<'a>, LoggedTurn, u64> for RanItem {
     ghost state = { λ run. None };
 }
 
-/// An empty list for each of so many desks, in the configuration's order. They have no name yet.
+/// An empty list for each of so many desks, in the configuration's order, and one for the author's
+/// room. They have no name yet.
 #[derive(Drop)]
 pub struct TurnLists {
     pub(crate) lists: Vec<Option<NewList<LoggedTurn>>>,
+    pub(crate) room: NewList<LoggedTurn>,
 }
 
 impl TurnLists {
-    /// Begins so many lists.
+    /// Begins lists for so many desks, and for the room.
     ///
     /// # Errors
     ///
@@ -107,7 +109,10 @@ impl TurnLists {
         for _ in 0..desks {
             lists.push(Some(NewList::new()))?;
         }
-        Ok(TurnLists { lists })
+        Ok(TurnLists {
+            lists,
+            room: NewList::new(),
+        })
     }
 }
 
@@ -130,17 +135,19 @@ impl<K: HallName> Model for NamedTurnLists<K> {
 }
 
 impl<K: HallName> NamedTurnLists<K> {
-    ghost use Rattle.server_state.specs.TurnLists.{books_of};
+    ghost use Rattle.server_state.specs.TurnLists.{books_of, room_book_of};
 
-    /// Puts lists under their names.
-    pub(crate) fn new(lists: TurnLists) -> NamedTurnLists<K>
+    /// Puts the desks' lists under their names, and hands on the room's.
+    pub(crate) fn new(lists: TurnLists) -> (NamedTurnLists<K>, NewList<LoggedTurn>)
         requires { books_of lists ≡ K.turns }
+        ensures { result.1.front.seen.book ≡ room_book_of lists }
     {
-        let TurnLists { lists } = lists;
-        NamedTurnLists {
+        let TurnLists { lists, room } = lists;
+        let named = NamedTurnLists {
             lists,
             of: PhantomData,
-        }
+        };
+        (named, room)
     }
 
     /// Takes the list of the desk at this index out, where it is there.

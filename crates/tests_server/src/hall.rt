@@ -2,7 +2,7 @@
 ghost use Rattle.std.specs.Prelude.{◌≡◌};
 ghost use Rattle.mds_request.specs.Configuration.{configuration};
 ghost use Rattle.mds_snapshot.specs.Opening.{book_of};
-ghost use Rattle.server_state.specs.TurnLists.{books_of};
+ghost use Rattle.server_state.specs.TurnLists.{books_of, room_book_of};
 
 use crate::city::{BOTH, CAP, CONFIGURATION, NEW, SQUARE};
 use crate::runtime::OverlapRuntime;
@@ -160,6 +160,7 @@ fn open_and_run<K: SharedHallName, R: SharedHallRuntime>(
     requires book { book_of blank ≡ K.book }
     requires configured { configuration config ≡ K.configuration }
     requires turns { books_of lists ≡ K.turns }
+    requires room_turns { room_book_of lists ≡ K.room_turns }
 {
     let hall = Hall::<K>::new(rt, alloc, config, blank, lists)?;
     let config = hall.configuration().expect(rt, "a share");

@@ -2,7 +2,7 @@
 ghost use Rattle.std.specs.Prelude.{◌≡◌};
 ghost use Rattle.mds_request.specs.Configuration.{configuration};
 ghost use Rattle.mds_snapshot.specs.Opening.{book_of};
-ghost use Rattle.server_state.specs.TurnLists.{books_of};
+ghost use Rattle.server_state.specs.TurnLists.{books_of, room_book_of};
 
 use mds_request::Config;
 use mds_snapshot::{Blank, prepare};
@@ -224,6 +224,7 @@ fn serve_script<K: SharedHallName, R: LoopbackRuntime>(
     requires book { book_of blank ≡ K.book }
     requires configured { configuration config ≡ K.configuration }
     requires turns { books_of lists ≡ K.turns }
+    requires room_turns { room_book_of lists ≡ K.room_turns }
 {
     let queues = Queues::new(rt.alloc(), &config)?;
     let hall = Hall::<K>::new(rt, rt.alloc(), config, blank, lists)?;

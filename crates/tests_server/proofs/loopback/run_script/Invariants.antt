@@ -1,6 +1,6 @@
 use Rattle.mds_request.specs.Configuration.{configuration}
 use Rattle.mds_snapshot.specs.Opening.{book_of}
-use Rattle.server_state.specs.TurnLists.{books_of}
+use Rattle.server_state.specs.TurnLists.{books_of, room_book_of}
 use Rattle.tests_server.proofs.loopback.run_script.Given as goal
 
 -- the book of the blank that was just prepared
@@ -9,4 +9,4 @@ ghosts-serve_script-K-OpeningName g a = record { book = book_of a.blank }
 
 -- the books of the lists that were just begun, and the configuration that was just read
 abbrev pub ghosts-serve_script-K-HallName : goal.ghosts-serve_script-K-HallName
-ghosts-serve_script-K-HallName g a = record { configuration = configuration a.config; turns = books_of a.lists }
+ghosts-serve_script-K-HallName g a = record { configuration = configuration a.config; turns = books_of a.lists; room_turns = room_book_of a.lists }
