@@ -107,8 +107,8 @@ where
     ended
 }
 
-/// Persists what a hall accepts in a log that continues this history, and serves the hall, whose desks are those that
-/// were started from the log. N names the history.
+/// Persists what a hall accepts in a log that continues this history, and serves the hall, whose room and desks are
+/// those that were started from the log. N names the history.
 ///
 /// # Errors
 ///
@@ -131,7 +131,7 @@ where
     requires book { history.seen.book ≡ N.book }
     requires listed { (first : List (List ℕ)) × L.may_be log first }
     requires resumed { AreResumed (L.may_be log) K.configuration stage.dropped.now
-        (map (λ desk. desk.opening.front.seen.log) hall.desks.items) }
+        hall.room_opening.front.seen.log (map (λ desk. desk.opening.front.seen.log) hall.desks.items) }
     requires space { S.aside space ≡ 0 }
     requires clients { ReadsClients K.configuration N.client_of }
 {

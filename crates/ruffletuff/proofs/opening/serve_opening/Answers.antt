@@ -33,5 +33,6 @@ persist_and_serve-requires-clause-resumed g c κs within =
     c.requires.configured c.in_ok-room.ensures.2 in (
       server,
       (texts, c.new.ensures.unchanged texts c.in_ok-room.ensures.1, started),
+      c.in_ok-hall.ensures.room_opened,
       c.in_ok-hall.ensures.opened ∙ sym (map-map opened_as state_of c.in_ok-room.desks.items),
     )
