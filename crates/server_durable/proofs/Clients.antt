@@ -1,6 +1,7 @@
 -- The client that makes a call, and the records of requests by client.
 use Rattle.std.proofs.Common.{◌≡◌, ◌<◌, ◌+◌, ℕ, zero, suc, List, [], ◌∷◌, ◌++◌, length, map, take, drop, get_or, Option, Some, None, option_map, Ok, refl, sym, ap, subst, ◌∙◌}
 use Rattle.std.proofs.lemmas.List.{map-append}
+use Rattle.std.specs.List.{AllByRecursion}
 use Rattle.journal_entry.specs.Requests.{asked_by, client_at}
 use Rattle.journal_entry.specs.declared.entry.EntryClient.{EntryClient}
 use Rattle.journal_entry.specs.declared.entry.EntryClient.TheVariants.{Operator as OperatorBy}
@@ -15,7 +16,7 @@ use Rattle.mds_request.proofs.Callers.{call_of-caller, caller}
 use Rattle.server_state.specs.Client.{IsWithin}
 use Rattle.server_state.proofs.Clients.{is_within}
 use Rattle.server_durable.specs.Many.{AreAskedBy, AreRecordsOf, report_of}
-use Rattle.server_durable.specs.Records.{IsRecordOf, caller_of, record_by}
+use Rattle.server_durable.specs.Records.{IsRecordOf, IsRecordable, caller_of, record_by}
 use Rattle.server_durable.proofs.Accepted.{taken_more}
 
 -- an operator in a record, by its identifier
@@ -42,27 +43,28 @@ module _ (configuration : Configuration) (request : Request) where
 
   -- the record names the client
   pub record_of : (actor : Actor) (client : EntryClient) (text : List ℕ) → actor_of configuration request.token ≡ actor → client_at configuration actor ≡ Some client
-      → text ≡ record_by client request → IsRecordOf configuration request text
-  record_of actor client text is known text_is =
+      → text ≡ record_by client request → IsRecordable request → IsRecordOf configuration request text
+  record_of actor client text is known text_is within =
       record {
         entry = asked_by request client;
         is_its = ap (λ who. option_map (asked_by request) (client_at configuration who)) is ∙ ap (option_map (asked_by request)) known;
         text_is = text_is;
+        within = within;
       }
 
   -- the call says which client
   pub record_of_call : (own : Call) (client : EntryClient) (text : List ℕ) → call_of configuration request ≡ Ok own → client_at configuration (caller_of own) ≡ Some client
-      → text ≡ record_by client request → IsRecordOf configuration request text
+      → text ≡ record_by client request → IsRecordable request → IsRecordOf configuration request text
   record_of_call own client text is = record_of (caller_of own) client text (asks own is)
 
 module _ (configuration : Configuration) (place : ℕ) where
   -- the records of an operator's requests
   pub records_of : (client : EntryClient) (requests : List Request) → client_at configuration (Operator place) ≡ Some client → AreAskedBy configuration place requests
-      → AreRecordsOf configuration requests (map (record_by client) requests)
-  records_of client [] known asked = tt
-  records_of client (request ∷ requests) known asked = (
-    record_of configuration request (Operator place) client (record_by client request) asked.0 known refl,
-    records_of client requests known asked.1,
+      → AllByRecursion IsRecordable requests → AreRecordsOf configuration requests (map (record_by client) requests)
+  records_of client [] known asked within = tt
+  records_of client (request ∷ requests) known asked within = (
+    record_of configuration request (Operator place) client (record_by client request) asked.0 known refl within.0,
+    records_of client requests known asked.1 within.1,
   )
 
   -- the reports of an operator's request are requests of that operator
@@ -95,3 +97,15 @@ texts_more request text own lent i item was now it within here more are is =
     ∙ sym (map-append own (map request (take i lent)) (request item ∷ []))
     ∙ ap (map own) (sym (map-append request (take i lent) (item ∷ [])))
     ∙ ap (λ xs. map own (map request xs)) (sym (taken_more lent i item within here))
+
+-- each of one more is within the limits of an entry
+all_more : {A : Type 0} (P : A → Type 0) (items : List A) (item : A) → AllByRecursion P items → P item → AllByRecursion P (items ++ item ∷ [])
+all_more P [] item all it = (it, tt)
+all_more P (first ∷ items) item all it = (all.0, all_more P items item all.1 it)
+
+pub recordable_more : {A : Type 0} (request : A → Request) (lent : List A) (i : ℕ) (item : A) → i < length lent → item ≡ get_or lent i item
+    → AllByRecursion IsRecordable (map request (take i lent)) → IsRecordable (request item) → AllByRecursion IsRecordable (map request (take (i + 1) lent))
+recordable_more request lent i item within here all it =
+    subst (λ xs. AllByRecursion IsRecordable (map request xs)) (sym (taken_more lent i item within here))
+    (subst (AllByRecursion IsRecordable) (sym (map-append request (take i lent) (item ∷ [])))
+    (all_more IsRecordable (map request (take i lent)) (request item) all it))

@@ -16,3 +16,5 @@ mod Turns
 mod Unkept
 mod ViewReplies
 mod Ways
+mod Journals
+mod LoggedHalls

@@ -8,3 +8,5 @@ pub mod FleetViews
 pub mod CacheControl
 pub mod DurableResponse
 pub mod Laws
+pub mod Logged
+pub mod Journals

@@ -1,10 +1,13 @@
 -- Records of requests, and their reservations in a log.
-use Rattle.std.specs.Prelude.{◌≡◌, ℕ, false, List, [], ◌∷◌, ◌++◌, Option, Some, None, IfSome, Result, Ok}
+use Rattle.std.specs.Prelude.{◌≡◌, ◌≤◌, ℕ, false, List, [], ◌∷◌, ◌++◌, length, Option, Some, None, IfSome, Result, Ok}
 use Rattle.journal_commit.specs.Durable.{AreDurable}
 use Rattle.journal_commit.specs.declared.backlog.Reservation.{Reservation}
 use Rattle.journal_entry.specs.Entries.{Entry, entry_text}
 use Rattle.journal_entry.specs.Requests.{asked_by, entry_by}
 use Rattle.journal_entry.specs.declared.entry.EntryClient.{EntryClient}
+use Rattle.journal_entry.specs.declared.entry.TheConstants.{MOST_TARGET}
+use Rattle.mds_text.specs.Fields.{last_moment}
+use Rattle.mds_request.specs.declared.call.TheConstants.{MOST_BODY}
 use Rattle.mds_request.specs.Configuration.{Configuration}
 use Rattle.mds_request.specs.Request.{Request}
 use Rattle.mds_request.specs.Call.{call_of}
@@ -34,11 +37,18 @@ IsAmong text texts = (before : List (List ℕ)) × (after : List (List ℕ)) × 
 abbrev pub record_by : EntryClient → Request → List ℕ
 record_by client request = entry_text (asked_by request client)
 
+-- the request is within the limits of an entry
+pub record IsRecordable (request : Request) : Type 0 where
+  pub at : request.at ≤ last_moment
+  pub target : length request.target ≤ MOST_TARGET
+  pub body : length request.body ≤ MOST_BODY
+
 -- the payload is that of the request's entry, with its client and no access token
 pub record IsRecordOf (configuration : Configuration) (request : Request) (text : List ℕ) : Type 0 where
   pub entry : Entry
   pub is_its : entry_by configuration request ≡ Some entry
   pub text_is : text ≡ entry_text entry
+  pub within : IsRecordable request
 
 -- the request's record is among these payloads
 abbrev pub HasRecord : Configuration → Request → List (List ℕ) → Type 0

@@ -1,4 +1,5 @@
 //! Laws of a city's responses. The functions do nothing: their contracts are the laws.
+ghost use Rattle.server_durable.specs.Journals.{HallsGoOn, JournalsGoOn, LogsAreJournals};
 ghost use Rattle.server_durable.specs.Laws.{AppCallsAreNotKept, ManyAreKept, OperatorsAreToldTheirOwn, RecordedAreKept, RespondsAsAHall, ViewsAreAskedByTheOperator, ViewsAreByOwnRequests, ViewsAreByOwnRows, ViewsLeaveRows, WithdrawalsAreOfOwnPolicies};
 
 use journal_file::Log;
@@ -48,4 +49,21 @@ pub fn views_leave_vehicles()
 pub fn views_are_of_their_operator()
     ensures rows { ViewsAreByOwnRows }
     ensures requests { ViewsAreByOwnRequests }
+{}
+
+/// A log whose payloads are, client by client, the records of what was told to be accepted is the journal of what was
+/// done: the premise of the law of restarts.
+pub fn logs_are_journals()
+    ensures { LogsAreJournals }
+{}
+
+/// The journal of what was done before a restart and that of what was done behind it are one journal.
+pub fn journals_go_on()
+    ensures { JournalsGoOn }
+{}
+
+/// What a hall did since it was opened over a room and desks goes on from these; and its log, read as entries, is the
+/// journal of what it did.
+pub fn halls_go_on()
+    ensures { HallsGoOn }
 {}

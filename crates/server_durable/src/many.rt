@@ -1,6 +1,6 @@
 //! Many reports of an operator, answered by turns of its desk with nothing between.
 ghost use Rattle.std.specs.Prelude.{◌≡◌, ◌==◌, ◌≤◌, ◌<◌, ◌++◌, IfOk, List, OnOk, length, map, not, vec_capacity};
-ghost use Rattle.std.specs.List.{list_all};
+ghost use Rattle.std.specs.List.{AllByRecursion, list_all};
 ghost use Rattle.mds_request.specs.Configuration.{actor_of};
 ghost use Rattle.mds_request.specs.Request.{request_of};
 ghost use Rattle.mds_request.specs.Reply.{Reply, refused};
@@ -9,7 +9,7 @@ ghost use Rattle.server_state.specs.WholeRequest.{request_heard};
 ghost use Rattle.mds_request.specs.declared.config.Actor.TheVariants.{Operator};
 ghost use Rattle.server_durable.specs.Many.{AreAskedBy, AreRecordsOf, AreRefusedBehind, Continues, IsAnsweredInPart, IsHalted, ManyAreAnswered, SaysAll, refusal_behind};
 ghost use Rattle.journal_commit.specs.Clients.{AreOf};
-ghost use Rattle.server_durable.specs.Records.{record_by};
+ghost use Rattle.server_durable.specs.Records.{IsRecordable, record_by};
 ghost use Rattle.server_durable.specs.CacheControl.{Waits};
 
 use crate::batch::{chunk_length, may_be_report, reports};
@@ -108,7 +108,8 @@ fn record_texts(
     client: &EntryClient,
     requests: &[Request<'_>],
 ) -> Result<Vec<Vec<u8>>, NoReservation>
-    ensures { IfOk result (λ texts. map (λ text. text.items) texts.items ≡ map (record_by client.now) (map request_of requests.now)) }
+    ensures texts { IfOk result (λ texts. map (λ text. text.items) texts.items ≡ map (record_by client.now) (map request_of requests.now)) }
+    ensures within { OnOk result (AllByRecursion IsRecordable (map request_of requests.now)) }
 {
     let mut texts = Vec::with_capacity(alloc, requests.len())?;
     for request in requests {

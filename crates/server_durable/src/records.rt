@@ -8,7 +8,7 @@ ghost use Rattle.mds_request.specs.Configuration.{configuration};
 ghost use Rattle.mds_request.specs.Request.{request_of};
 ghost use Rattle.mds_request.specs.declared.config.Actor.TheVariants.{Operator};
 ghost use Rattle.server_durable.specs.Owners.{IsOwnedBy, appended_by};
-ghost use Rattle.server_durable.specs.Records.{IsSettled, caller_of, record_by, sharer_of};
+ghost use Rattle.server_durable.specs.Records.{IsRecordable, IsSettled, caller_of, record_by, sharer_of};
 ghost use Rattle.server_durable.specs.Refusals.{refusal_for};
 
 use crate::pending::NoResponse;
@@ -152,7 +152,8 @@ pub(crate) fn record_text(
     client: EntryClient,
     request: &Request<'_>,
 ) -> Result<Vec<u8>, NoReservation>
-    ensures { IfOk result (λ text. text.items ≡ record_by client (request_of request.now)) }
+    ensures text { IfOk result (λ text. text.items ≡ record_by client (request_of request.now)) }
+    ensures within { OnOk result (IsRecordable (request_of request.now)) }
 {
     let entry = JournalEntry {
         client,

@@ -3,7 +3,7 @@ use Rattle.journal_entry.specs.Requests.{client_at}
 use Rattle.mds_request.specs.Configuration.{Configuration, configuration}
 use Rattle.server_state.specs.Client.{IsWithin}
 use Rattle.server_state.specs.WholeRequest.{request_heard}
-use Rattle.server_durable.specs.Records.{caller_of, record_by}
+use Rattle.server_durable.specs.Records.{IsRecordable, caller_of, record_by}
 use Rattle.server_durable.proofs.Clients.{caller_within, record_of_call}
 use Rattle.server_durable.proofs.durable_hall.DurableHall.reserve_for.Goals as goal
 
@@ -21,4 +21,5 @@ returns-in-Ok g c =
     let shared : configuration c.deref.result.now ≡ own = ap configuration c.deref.ensures ∙ c.in_ok-config.ensures ∙ c.args.self.now.hall.configured in
     record_of_call own request c.args.call.now client c.in-Ok.place.text.items c.requires
     (subst (λ (cfg : Configuration). client_at cfg (caller_of c.args.call.now) ≡ Some client) shared c.client_of-client.ensures)
-    (ap (λ text. text.items) c.in-Ok.ensures ∙ c.in_ok-text.ensures ∙ ap (record_by client) c.request-request.ensures)
+    (ap (λ text. text.items) c.in-Ok.ensures ∙ c.in_ok-text.ensures.text ∙ ap (record_by client) c.request-request.ensures)
+    (subst IsRecordable c.request-request.ensures c.in_ok-text.ensures.within)

@@ -19,5 +19,5 @@ returns-in-Ok g c =
     let client = c.operator_client-client.result in
     let shared : configuration c.deref.result.now ≡ own = ap configuration c.deref.ensures ∙ c.in_ok-config.ensures ∙ c.args.self.now.hall.configured in
     let known = subst (λ (cfg : Configuration). client_at cfg (Operator c.args.place) ≡ Some client) shared c.operator_client-client.ensures in
-    subst (AreRecordsOf own requests) (sym (ap (λ texts. map (λ text. text.items) texts.items) c.in-Ok.ensures ∙ c.in_ok-texts.ensures))
-    (records_of own c.args.place client requests known c.requires.asked)
+    subst (AreRecordsOf own requests) (sym (ap (λ texts. map (λ text. text.items) texts.items) c.in-Ok.ensures ∙ c.in_ok-texts.ensures.texts))
+    (records_of own c.args.place client requests known c.requires.asked c.in_ok-texts.ensures.within)
