@@ -353,30 +353,31 @@ def are_new(what, answer, count=None):
 
 
 def on_a_disk_that_waits(program):
-    """While a sync lasts, and an operator has as many changes behind it as it may, each more is told busy and isn't carried out."""
+    """While a sync lasts, and an operator, not the first, has as many changes behind it as it may, each more is told busy and isn't carried
+    out; the first one's change is taken."""
     with tempfile.TemporaryDirectory(prefix="shares-") as room, concurrent.futures.ThreadPoolExecutor(8) as pool:
         city, hold = City(program, room, configuration()), os.path.join(room, "hold")
         with city.serve("--thin-at", "0", env=held(room, hold)) as server:
             size = os.path.getsize(city.journal)
             with open(hold, "wb"):
-                first = pool.submit(asked, server, FIRST, ONE, report(SHARE))
+                first = pool.submit(asked, server, SECOND, ONE, report(SHARE))
             # What is written doesn't wait any more, so the whole share is left for what comes behind it. The answer to many lines keeps
             # others of its client from their turn, from when it is counted until all of its lines wait.
             is_held = is_written_behind(city.journal, size)
-            full = pool.submit(asked, server, FIRST, MANY, b"\n".join(report(it) for it in range(SHARE)))
+            full = pool.submit(asked, server, SECOND, MANY, b"\n".join(report(it) for it in range(SHARE)))
             if not is_held or until(server, "pending_replies", lambda count: count == 2) != 2:
                 yield "the disk doesn't wait"
                 return
             late = [(ONE, report(SHARE + 1)), (ONE, report(SHARE + 2)), (MANY, report(SHARE + 3) + b"\n" + report(SHARE + 4))]
-            refused = [pool.submit(asked, server, FIRST, *it) for it in late]
-            other = pool.submit(asked, server, SECOND, ONE, report(1))
+            refused = [pool.submit(asked, server, SECOND, *it) for it in late]
+            other = pool.submit(asked, server, FIRST, ONE, report(1))
             yield from refused_at_last(refused)
             os.remove(hold)
             yield from are_new("the change that the disk waited with", first.result()[0])
             yield from are_new("as many as may wait behind it", full.result()[0], SHARE)
             yield from are_new("another operator's", other.result()[0])
             for target, body in late:
-                yield from are_new("one that was told busy, again", asked(server, FIRST, target, body)[0], 2 if target == MANY else None)
+                yield from are_new("one that was told busy, again", asked(server, SECOND, target, body)[0], 2 if target == MANY else None)
             yield from ends_well(server)
 
 

@@ -3,9 +3,10 @@
 
     syncs.py PROGRAM
 
-While a sync lasts a report that waits for it isn't answered, and isn't shown to its operator over another connection either. And a thinned
-journal is synced before it gets the journal's name, and behind that the folder is, before anything else: by `thin`, and while the city is
-served. Wants a compiler of C (packages.py). Prints what is otherwise, and last 'N passed, M failed'; ends with 1 where one failed.
+While a sync lasts a report that waits for it isn't answered, and isn't shown to its operator over other connections either; a refusal that
+shows nothing waits for no sync. And a thinned journal is synced before it gets the journal's name, and behind that the folder is, before
+anything else: by `thin`, and while the city is served. By then the thinning is recorded, and the journal before it archived, each on the
+disk. Wants a compiler of C (packages.py). Prints what is otherwise, and last 'N passed, M failed'; ends with 1 where one failed.
 """
 
 import concurrent.futures
@@ -18,12 +19,14 @@ import packages
 from journals import until
 from kept import City, ended, held, told_of, tried
 from shares import is_written_behind
+from thinning import PART, RECORDED, RECORDING
 from wire import FIRST, PATIENCE, SECONDS, Link, configuration, identifier, report, request
 
 NEW = b'{"result":"new"}'
 PAUSE = 0.5 * PATIENCE  # seconds for an answer that isn't to come
 SMALL = 20_000  # bytes of growth behind which the journal is thinned
 REPORTS = 10_000  # at the most, until it is
+QUESTIONS = ("/fleet/vehicles", "/app/fleet")  # that show a report
 
 
 def reported(server):
@@ -35,27 +38,33 @@ def reported(server):
 
 
 def what_is_not_synced_is_not_told(program):
-    """While its sync lasts a report isn't answered, and a question that would show it isn't either; once it is over both are."""
-    with tempfile.TemporaryDirectory(prefix="syncs-") as room, concurrent.futures.ThreadPoolExecutor(2) as pool:
+    """While its sync lasts a report isn't answered, and questions that would show it aren't either; once it is over all are. What is refused
+    without a turn is answered meanwhile."""
+    with tempfile.TemporaryDirectory(prefix="syncs-") as room, concurrent.futures.ThreadPoolExecutor(4) as pool:
         city, hold = City(program, room, configuration()), os.path.join(room, "hold")
         with city.serve("--thin-at", "0", env=held(room, hold)) as server:
             size = os.path.getsize(city.journal)
             with open(hold, "wb"):
                 change = pool.submit(reported, server)
             is_held = is_written_behind(city.journal, size)
-            question = pool.submit(server.ask, "GET", "/fleet/vehicles", FIRST)
-            if not is_held or until(server, "pending_replies", lambda count: count == 2) != 2:
-                yield "a report and a question don't wait together"
+            questions = {target: pool.submit(server.ask, "GET", target, FIRST) for target in QUESTIONS}
+            if not is_held or until(server, "pending_replies", lambda count: count == 3) != 3:
+                yield "a report and two questions don't wait together"
+            refused = pool.submit(server.ask, "GET", "/nowhere", FIRST)
             time.sleep(PAUSE)
             if change.done():
                 yield "a report is answered while its sync lasts"
-            if question.done():
-                yield "a report is shown while its sync lasts"
+            yield from (f"a report is shown at {target} while its sync lasts" for target, it in questions.items() if it.done())
+            if not refused.done():
+                yield "a refusal waits for a sync"
             os.remove(hold)
             if (answer := change.result()).status != 200 or answer.body != NEW:
                 yield f"the report is answered {answer}"
-            if (answer := question.result()).status != 200 or identifier(4, 1).encode() not in answer.body:
-                yield f"the question is answered {answer}"
+            for target, it in questions.items():
+                if (answer := it.result()).status != 200 or identifier(4, 1).encode() not in answer.body:
+                    yield f"{target} is answered {answer}"
+            if (answer := refused.result()).status != 404:
+                yield f"what is refused is answered {answer}"
             if (found := server.end()) != (0, b"", b""):
                 yield f"it ends with {found}"
 
@@ -66,7 +75,13 @@ def steps_in(file):
         return text.read().splitlines()
 
 
-def unsynced(city, file):
+def on_the_disk(steps, file, name):
+    """Whether a file was synced, then got its name, and then the folder of that name was synced."""
+    named = max((place for place, step in enumerate(steps) if step == f"named {name}"), default=None)
+    return named is not None and f"synced {file}" in steps[:named] and f"synced {os.path.dirname(name)}" in steps[named:]
+
+
+def unsynced(city, file, archive=None):
     """What isn't synced in time of journals that got the journal's name."""
     steps = steps_in(file)
     places = [place for place, step in enumerate(steps) if step == f"named {city.journal}"]
@@ -75,12 +90,18 @@ def unsynced(city, file):
     for place in places:
         if f"synced {city.journal}.thinned" not in steps[:place]:
             yield "a journal gets the name that wasn't synced"
+        if not on_the_disk(steps[:place], os.path.join(city.folder, RECORDING), os.path.join(city.folder, RECORDED)):
+            yield "a journal gets the name before its thinning is recorded on the disk"
+        for name in os.listdir(archive) if archive else ():
+            if not on_the_disk(steps[:place], os.path.join(archive, PART), os.path.join(archive, name)):
+                yield f"a journal gets the name before {name} is on the disk"
         if steps[place + 1 : place + 2] != [f"synced {city.folder}"]:
             yield f"behind the new name comes {steps[place + 1 : place + 2]}"
 
 
 def names_are_synced(program):
-    """A thinned journal is synced before it gets the name, and the folder behind that: while the city is served, and by thin."""
+    """A thinned journal is synced before it gets the name, and the folder behind that: while the city is served, and by thin. What is
+    recorded and archived of it is on the disk before."""
     with tempfile.TemporaryDirectory(prefix="syncs-") as made:
         room = os.path.realpath(made)
         city, file = City(program, room, configuration()), os.path.join(room, "steps")
@@ -96,9 +117,12 @@ def names_are_synced(program):
             server.end()
         yield from (f"while it is served: {it}" for it in unsynced(city, file))
         os.remove(file)
-        if (found := ended(program, "thin", city.folder, "--config", city.file, **how))[0]:
+        os.mkdir(archive := os.path.join(room, "archive"))
+        if (found := ended(program, "thin", city.folder, "--config", city.file, "--archive", archive, **how))[0]:
             yield f"thin ends with {found}"
-        yield from (f"by thin: {it}" for it in unsynced(city, file))
+        if len(os.listdir(archive)) != 1:
+            yield f"the archive has {os.listdir(archive)}"
+        yield from (f"by thin: {it}" for it in unsynced(city, file, archive))
 
 
 if __name__ == "__main__":
