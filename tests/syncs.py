@@ -26,7 +26,12 @@ NEW = b'{"result":"new"}'
 PAUSE = 0.5 * PATIENCE  # seconds for an answer that isn't to come
 SMALL = 20_000  # bytes of growth behind which the journal is thinned
 REPORTS = 10_000  # at the most, until it is
-QUESTIONS = ("/fleet/vehicles", "/app/fleet")  # that show a report
+# What shows a report: who asks what, and what the answer has.
+SHOWING = {
+    "a question": (("GET", "/fleet/vehicles", FIRST), 200, identifier(4, 1).encode()),
+    "a view": (("GET", "/app/fleet", FIRST), 200, identifier(4, 1).encode()),
+    "the refusal of an earlier report": (("POST", "/fleet/events", FIRST, report(1, 1_999)), 409, b"stale"),
+}
 
 
 def reported(server):
@@ -38,31 +43,32 @@ def reported(server):
 
 
 def what_is_not_synced_is_not_told(program):
-    """While its sync lasts a report isn't answered, and questions that would show it aren't either; once it is over all are. What is refused
-    without a turn is answered meanwhile."""
-    with tempfile.TemporaryDirectory(prefix="syncs-") as room, concurrent.futures.ThreadPoolExecutor(4) as pool:
+    """While its sync lasts a report isn't answered, and nothing that would show it is either; once it is over all is. What is refused without
+    a turn is answered meanwhile."""
+    with tempfile.TemporaryDirectory(prefix="syncs-") as room, concurrent.futures.ThreadPoolExecutor(5) as pool:
         city, hold = City(program, room, configuration()), os.path.join(room, "hold")
         with city.serve("--thin-at", "0", env=held(room, hold)) as server:
             size = os.path.getsize(city.journal)
             with open(hold, "wb"):
                 change = pool.submit(reported, server)
             is_held = is_written_behind(city.journal, size)
-            questions = {target: pool.submit(server.ask, "GET", target, FIRST) for target in QUESTIONS}
-            if not is_held or until(server, "pending_replies", lambda count: count == 3) != 3:
-                yield "a report and two questions don't wait together"
+            shown = {name: pool.submit(server.ask, *asked) for name, (asked, _, _) in SHOWING.items()}
+            waiting = 1 + len(shown)
+            if not is_held or until(server, "pending_replies", lambda count: count == waiting) != waiting:
+                yield "a report and what would show it don't wait together"
             refused = pool.submit(server.ask, "GET", "/nowhere", FIRST)
             time.sleep(PAUSE)
             if change.done():
                 yield "a report is answered while its sync lasts"
-            yield from (f"a report is shown at {target} while its sync lasts" for target, it in questions.items() if it.done())
+            yield from (f"a report is shown by {name} while its sync lasts" for name, it in shown.items() if it.done())
             if not refused.done():
                 yield "a refusal waits for a sync"
             os.remove(hold)
             if (answer := change.result()).status != 200 or answer.body != NEW:
                 yield f"the report is answered {answer}"
-            for target, it in questions.items():
-                if (answer := it.result()).status != 200 or identifier(4, 1).encode() not in answer.body:
-                    yield f"{target} is answered {answer}"
+            for name, it in shown.items():
+                if (answer := it.result()).status != SHOWING[name][1] or SHOWING[name][2] not in answer.body:
+                    yield f"{name} is answered {answer}"
             if (answer := refused.result()).status != 404:
                 yield f"what is refused is answered {answer}"
             if (found := server.end()) != (0, b"", b""):
