@@ -276,6 +276,20 @@ def a_copied_journal(given):
     yield from ()
 
 
+def a_fault_is_said(given):
+    """Where a link stands in the place of the file compactions nothing is told of the past, and standard error says so."""
+    with tempfile.TemporaryDirectory(prefix="past-") as room:
+        city = City(given.program, room, configured("vehicles"))
+        with city.serve() as server:
+            at = reports(server, FIRST, (1,))
+            os.remove(record := os.path.join(city.folder, "compactions"))
+            os.symlink(city.file, record)
+            is_refused(asked(server, "/app/fleet", FIRST, at), 410, NOT_KEPT, "by a link")
+            status, _, said = server.end()
+        expect(status == 0 and UNTOLD.fullmatch(said), f"it ends with {status}, and standard error says {said[:300]}")
+    yield from ()
+
+
 # --- At once -------------------------------------------------------------------------------------------------------
 
 
@@ -340,7 +354,7 @@ def main():
     given = parser.parse_args()
     given.program, given.replay = os.path.abspath(given.program), os.path.abspath(given.replay)
     found = Tried()
-    for call in (moments_of_the_past, refusals, an_archive, a_copied_journal, at_once):
+    for call in (moments_of_the_past, refusals, an_archive, a_copied_journal, a_fault_is_said, at_once):
         found.one(call.__name__.replace("_", " "), call(given))
     return found.told()
 
