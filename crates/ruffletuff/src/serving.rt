@@ -2,7 +2,7 @@
 ghost use Rattle.std.specs.Prelude.{◌≡◌, ℕ, List, IfOk, Ok, map};
 ghost use Rattle.ruffletuff.specs.Ends.{outcome_of};
 ghost use Rattle.ruffletuff.specs.Resumed.{AreResumed};
-ghost use Rattle.server_durable.specs.Owners.{ReadsClients};
+ghost use Rattle.server_durable.specs.Owners.{client_in};
 
 use crate::admin::AdminState;
 use crate::city_journals::CityJournals;
@@ -19,8 +19,8 @@ use mds_text::Id;
 use server_durable::DurableHall;
 use server_http::{Queues, ServeOutcome, ShutdownHandle, serve_by};
 use server_journal::{ThreadJob, run_concurrently};
-use server_past::PastJournals;
-use server_site::Site;
+use server_past::{PastFleets, PastJournals};
+use server_site::{Site, at_machine_clock};
 use server_state::{Hall, HallName, SharedHallName};
 use std::alloc::Global;
 use std::io::{self, Print};
@@ -133,7 +133,7 @@ where
     requires resumed { AreResumed (L.may_be log) K.configuration stage.dropped.now
         hall.room_opening.front.seen.log (map (λ desk. desk.opening.front.seen.log) hall.desks.items) }
     requires space { S.aside space ≡ 0 }
-    requires clients { ReadsClients K.configuration N.client_of }
+    requires clients { N.client_of ≡ client_in K.configuration }
 {
     let alloc = rt.alloc();
     count_vehicles(rt, &hall, stage.board.counters)?;
@@ -178,10 +178,9 @@ where
     let board = stage.board;
     let journals = CityJournals::new(*rt, rt.alloc(), stage.folder, stage.archive)?;
     let site = Site::open(
-        rt,
-        city,
-        Chunked(*rt),
-        journals,
+        rt.alloc(),
+        at_machine_clock(rt, city, Chunked(*rt)),
+        PastFleets::new(journals),
         board.configuration,
         board.counters,
     )?;

@@ -14,8 +14,8 @@ use Rattle.journal_commit.specs.declared.history.LogName.{Ghosts as Books}
 use Rattle.journal_commit.specs.declared.space.Space.{Ghosts as Spaces}
 use Rattle.journal_commit.proofs.history.LogPosition.TheSendSync as stamp
 use Rattle.journal_commit.proofs.commit_log.CommitLog.TheSendSync as keeper
-use Rattle.server_durable.proofs.client_records.AuthorRecords.TheSendSync as authors
-use Rattle.server_durable.proofs.client_records.OperatorRecords.TheSendSync as operators
+use Rattle.server_durable.proofs.room_turn.author_log.AuthorLog.TheSendSync as authors
+use Rattle.server_durable.proofs.desk_records.DeskRecords.TheSendSync as operators
 use Rattle.server_durable.specs.contracts.durable_hall.DurableHall as DurableHall
 use Rattle.server_durable.specs.contracts.service.DurableService as DurableService
 

@@ -63,7 +63,7 @@ module _ (configuration : Configuration) (place : ℕ) where
       → AllByRecursion IsRecordable requests → AreRecordsOf configuration requests (map (record_by client) requests)
   records_of client [] known asked within = tt
   records_of client (request ∷ requests) known asked within = (
-    record_of configuration request (Operator place) client (record_by client request) asked.0 known refl within.0,
+    record_of configuration request (Operator place) client (record_by client request) asked.0.asks known refl within.0,
     records_of client requests known asked.1 within.1,
   )
 
@@ -71,7 +71,7 @@ module _ (configuration : Configuration) (place : ℕ) where
   pub reports_asked : (request : Request) (lines : List (List ℕ)) → actor_of configuration request.token ≡ Operator place
       → AreAskedBy configuration place (map (report_of request) lines)
   reports_asked request [] is = tt
-  reports_asked request (line ∷ lines) is = (is, reports_asked request lines is)
+  reports_asked request (line ∷ lines) is = (record { asks = is; verb = refl; target = refl }, reports_asked request lines is)
 
   -- so are a prefix of its requests, and the rest
   pub front_asked : {A : Type 0} (request : A → Request) (n : ℕ) (lent : List A) → AreAskedBy configuration place (map request lent)

@@ -3,12 +3,15 @@ mod Among
 mod Clients
 pub mod Cities
 mod Cutting
+mod Kept
+mod Logging
 mod Own
 mod OwnBodies
 pub mod OwnTokens
 mod OwnViews
 pub mod Owning
 mod Reports
+mod RoomLogging
 pub mod Responses
 mod Runs
 mod Told

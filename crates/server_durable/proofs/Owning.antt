@@ -1,5 +1,5 @@
 -- Whose the records are.
-use Rattle.std.proofs.Common.{◌≡◌, ℕ, List, [], ◌∷◌, ◌++◌, length, take, drop, Option, Some, None, IfSome, option_map, refl, sym, ap, ◌∙◌, append_assoc, length-append, arith}
+use Rattle.std.proofs.Common.{◌≡◌, ℕ, List, [], ◌∷◌, ◌++◌, length, drop, Option, Some, None, IfSome, option_map, refl, sym, ap, ◌∙◌, append_assoc, length-append, arith}
 use Rattle.std.proofs.Math.Seq.{drop-append_seam}
 use Rattle.std.proofs.lemmas.List.{take_at}
 use Rattle.uuid.specs.Text.{parsed}
@@ -86,7 +86,7 @@ module _ (configuration : Configuration) (client_of : List ℕ → ℕ) where
   pub owned_by : (who : Actor) (client : ℕ) (request : Request) (reserved : CallReservation) → OwnsRecords configuration client_of who client
       → actor_of configuration request.token ≡ who → IsReserved configuration request reserved → IsOwnedBy client_of client reserved
   owned_by who client request Reads own asks is = tt
-  owned_by who client request (Holds place) own asks is = own request place.text.items asks is
+  owned_by who client request (Holds place) own asks is = own request place.text.items asks is.1
 
   -- so are the records of an operator's requests
   pub records_are_of : (place client : ℕ) (requests : List Request) (texts : List (List ℕ)) → OwnsRecords configuration client_of (Operator place) client
@@ -95,7 +95,7 @@ module _ (configuration : Configuration) (client_of : List ℕ → ℕ) where
   records_are_of place client [] (text ∷ texts) own asked are = absurd are
   records_are_of place client (request ∷ requests) [] own asked are = absurd are
   records_are_of place client (request ∷ requests) (text ∷ texts) own asked are =
-      (own request text asked.0 are.0, records_are_of place client requests texts own asked.1 are.1)
+      (own request text asked.0.asks are.0, records_are_of place client requests texts own asked.1 are.1)
 
 module _ {H : Type 0} (place : H → Reservation) (client_of : List ℕ → ℕ) (client : ℕ) (text : List ℕ) where
   -- what is held of a reservation is the client's

@@ -35,7 +35,7 @@ use Rattle.server_durable.proofs.Turns.{first_true, second_true}
 pub rest_is : {A : Type 0} (n : ℕ) (items : List A) → take (length items - n) (drop n items) ≡ drop n items
 rest_is n items = ap (λ k. take k (drop n items)) (sym (length-drop n items)) ∙ take-length (drop n items)
 
-found_at : {A : Type 0} (items : List A) (i : ℕ) → i < length items → (item : A) × (slice_get items i ≡ Some item)
+pub found_at : {A : Type 0} (items : List A) (i : ℕ) → i < length items → (item : A) × (slice_get items i ≡ Some item)
 found_at [] i within = absurd (omega (arith, within))
 found_at (item ∷ items) zero within = (item, refl)
 found_at (item ∷ items) (suc i) within = found_at items i (omega (arith, within))

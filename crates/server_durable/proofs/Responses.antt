@@ -29,7 +29,7 @@ use Rattle.server_state.specs.Response.{Says}
 use Rattle.server_state.specs.Turn.{SaysOne}
 use Rattle.server_state.proofs.Resolving.{call_with_body}
 use Rattle.server_routes.specs.App.{app_of}
-use Rattle.server_durable.specs.DurableResponse.{Answers, IsAnswered, IsAnsweredAs, IsAnsweredBy, IsRecordedTurn, IsTold}
+use Rattle.server_durable.specs.DurableResponse.{Answers, IsAnswered, IsAnsweredAs, IsAnsweredBy, IsListed, IsRecordedTurn, IsTold}
 use Rattle.server_durable.specs.People.{IsToldReply, SaysTold}
 use Rattle.server_durable.specs.Refusals.{SaysUnheld}
 use Rattle.server_durable.specs.CacheControl.{Waits}
@@ -143,27 +143,21 @@ pub waits_kind : {V E : Type 0} (Kind Other : Reply → Type 0) (reply : V → O
 waits_kind Kind Other reply result imply says =
     ok_more result (λ s. waits_more (reply s) (λ response one. (one.0, told_more imply one.0 one.1, one.2))) says
 
--- the reply of a recorded turn, which waits for its log position
-pub waits_carried : {V E : Type 0} (reply : V → Option (Response (Full (List ℕ)))) (stamp : V → List (List ℕ)) (configuration : Configuration) (actor : Actor) (request : Request)
-    (answer : Reply) (shown : List (List ℕ)) (result : Result V E) → IsRecordedTurn configuration actor request answer shown
-    → IfOk result (λ s. Waits (λ response. Says response answer) (reply s)) → IfOk result (λ s. stamp s ≡ shown)
-    → IfOk result (λ s. Waits (IsAnsweredBy configuration actor request (stamp s)) (reply s))
-waits_carried reply stamp configuration actor request answer shown (Ok s) turn says same =
-    waits_more (reply s)
-    (λ response is. inr (record { reply = answer; turn = subst (λ (texts : List (List ℕ)). IsRecordedTurn configuration actor request answer texts) (sym same) turn; says = is }))
-    says
-waits_carried reply stamp configuration actor request answer shown (Err e) turn says same = tt
-
 -- the response to a request is the reply of its recorded turn
 pub waits_turn : {V E : Type 0} (reply : V → Option (Response (Full (List ℕ)))) (stamp : V → List (List ℕ)) (configuration : Configuration) (actor : Actor) (request : Request)
     (result : Result V E) (told : Reply) (texts : List (List ℕ)) → IsRecordedTurn configuration actor request told texts
-    → IfOk result (λ s. Waits (λ response. Says response told) (reply s)) → IfOk result (λ s. stamp s ≡ texts)
+    → IsListed configuration actor request told texts → IfOk result (λ s. Waits (λ response. Says response told) (reply s)) → IfOk result (λ s. stamp s ≡ texts)
     → IfOk result (λ s. Waits (IsAnsweredBy configuration actor request (stamp s)) (reply s))
-waits_turn reply stamp configuration actor request (Ok s) told texts turn says is = (
+waits_turn reply stamp configuration actor request (Ok s) told texts turn listed says is = (
   says.0,
   says.1,
   says.2,
   says.3,
-  inr (record { reply = told; turn = subst (IsRecordedTurn configuration actor request told) (sym is) turn; says = says.4 }),
+  inr (record {
+    reply = told;
+    turn = subst (IsRecordedTurn configuration actor request told) (sym is) turn;
+    listed = subst (IsListed configuration actor request told) (sym is) listed;
+    says = says.4;
+  }),
 )
-waits_turn reply stamp configuration actor request (Err e) told texts turn says is = tt
+waits_turn reply stamp configuration actor request (Err e) told texts turn listed says is = tt

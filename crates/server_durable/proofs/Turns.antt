@@ -34,7 +34,7 @@ has_record configuration request reply Reads stamp is settled kept =
     let may = first_true (may_change (call_of configuration request)) (reply.status == 200) kept in
     absurd (cc (may, is))
 has_record configuration request reply (Holds place) stamp is settled kept =
-    (place.text.items, is, settled (eqb-true reply.status 200 (second_true (may_change (call_of configuration request)) (reply.status == 200) kept)))
+    (place.text.items, is.1, settled (eqb-true reply.status 200 (second_true (may_change (call_of configuration request)) (reply.status == 200) kept)))
 
 -- a turn whose reservation was completed is recorded
 pub recorded : (configuration : Configuration) (actor : Actor) (request : Request) (reply : Reply) (reserved : CallReservation) (stamp : List (List ℕ))

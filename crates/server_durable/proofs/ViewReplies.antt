@@ -41,10 +41,10 @@ low_bytes [] low i = omega arith
 low_bytes (b ∷ bs) low zero = ltb-true b 128 (and_parts (ltb b 128) (list_all (λ b. ltb b 128) bs) low).0
 low_bytes (b ∷ bs) low (suc i) = low_bytes bs (and_parts (ltb b 128) (list_all (λ b. ltb b 128) bs) low).1 i
 
-ascii_text : (bs : List ℕ) → list_all (λ b. ltb b 128) bs ≡ true → is_utf8 bs ≡ true
+pub ascii_text : (bs : List ℕ) → list_all (λ b. ltb b 128) bs ≡ true → is_utf8 bs ≡ true
 ascii_text bs low = is_utf8-from_IsUtf8 bs (IsUtf8-from_ascii bs (low_bytes bs low))
 
-path_text : (view : FleetView) → is_utf8 (path_of (target_for view)) ≡ true
+pub path_text : (view : FleetView) → is_utf8 (path_of (target_for view)) ≡ true
 path_text Compliance = ascii_text (path_of (target_for Compliance)) refl
 path_text Vehicles = ascii_text (path_of (target_for Vehicles)) refl
 

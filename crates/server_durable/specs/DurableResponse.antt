@@ -21,6 +21,12 @@ use Rattle.server_state.specs.Early.{early}
 use Rattle.server_state.specs.Respond.{TurnGives}
 use Rattle.server_state.specs.Response.{Says}
 use Rattle.server_state.specs.Turn.{SaysOne}
+use Rattle.server_state.specs.TurnItem.{TurnItem}
+use Rattle.server_state.specs.TurnList.{IsToldTurn}
+use Rattle.server_admission.specs.Actor.{index_of}
+use Rattle.server_durable.specs.Logged.{ShowsTurns}
+use Rattle.server_durable.specs.Owners.{client_in}
+use Rattle.server_durable.specs.RoomLogged.{IsLoggedRoomTurn}
 use Rattle.server_routes.specs.App.{app_of}
 use Rattle.server_durable.specs.FleetViews.{IsEachCompliance, IsOwnView, IsViewOf}
 use Rattle.server_durable.specs.Many.{ManyAreAnswered}
@@ -37,10 +43,21 @@ pub record IsRecordedTurn (configuration : Configuration) (actor : Actor) (reque
   pub turn : TurnGives configuration actor request reply
   pub recorded : is_kept configuration (record { request = request; reply = reply }) ≡ true → HasRecord configuration request stamp
 
+-- The turn that gives this reply is the last of a list of all turns of the client's desk, or of the author's room, since
+-- it was put behind its lock. The client's payloads among these begin with the records of all these turns, in their order
+-- and with no other of the client's between.
+abbrev pub IsListed : Configuration → Actor → Request → Reply → List (List ℕ) → Type 0
+IsListed configuration (Operator place) request reply stamp =
+    (items : List TurnItem) × ∥ IsToldTurn configuration place request reply items ∥₁
+    × ∥ ShowsTurns configuration (client_in configuration) (index_of (Operator place)) items stamp ∥₁
+IsListed configuration Author request reply stamp = ∥ IsLoggedRoomTurn configuration (client_in configuration) request reply stamp ∥₁
+IsListed configuration Nobody request reply stamp = Unit {0}
+
 -- the response has the reply of such a turn
 pub record IsCarriedOutBy (configuration : Configuration) (actor : Actor) (request : Request) (stamp : List (List ℕ)) (response : Response (Full (List ℕ))) : Type 0 where
   pub reply : Reply
   pub turn : IsRecordedTurn configuration actor request reply stamp
+  pub listed : IsListed configuration actor request reply stamp
   pub says : Says response reply
 
 -- nothing is reserved in the log, and the request wasn't carried out; or it was

@@ -11,7 +11,7 @@ use Rattle.mds_machine.specs.Operator.{compliance_reply}
 use Rattle.mds_request.specs.Configuration.{Configuration, Operator, read_configuration}
 use Rattle.mds_request.specs.Reply.{Reply, refused, success}
 use Rattle.mds_request.specs.Request.{Request}
-use Rattle.mds_request.specs.declared.code.Code.TheVariants.{NoMemory, NotFound, Role}
+use Rattle.mds_request.specs.declared.code.Code.TheVariants.{NotFound, Role}
 use Rattle.mds_request.specs.declared.request.Verb.TheVariants.{Get}
 use Rattle.server_app.specs.ComplianceList.{compliance_list}
 use Rattle.server_app.specs.OperatorNames.{Badges}

@@ -2,11 +2,12 @@ pub mod Refusals
 pub mod Records
 pub mod Owners
 pub mod Many
+pub mod Logged
+pub mod RoomLogged
 pub mod Chunks
 pub mod People
 pub mod FleetViews
 pub mod CacheControl
 pub mod DurableResponse
 pub mod Laws
-pub mod Logged
 pub mod Journals

@@ -1,6 +1,6 @@
 -- The records of a desk's turns in a log.
 use mathlib.Core.List.{IsPrefix}
-use Rattle.std.specs.Prelude.{◌≡◌, ℕ, List, [], ◌∷◌, ◌++◌}
+use Rattle.std.specs.Prelude.{ℕ, List, [], ◌∷◌, ◌++◌}
 use Rattle.journal_commit.specs.Clients.{Own, of_client}
 use Rattle.journal_laws.specs.Persisted.{kept, requests_in}
 use Rattle.mds_machine.specs.Step.{Exchange}

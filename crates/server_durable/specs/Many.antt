@@ -39,9 +39,15 @@ report_of request line =
 abbrev pub reports_of : Request → List Request
 reports_of request = map (report_of request) (filter is_filled (lines request.body))
 
--- each of them is a request of the operator at this place
+-- it is a report of the operator at this place
+pub record IsReportBy (configuration : Configuration) (place : ℕ) (request : Request) : Type 0 where
+  pub asks : actor_of configuration request.token ≡ Operator place
+  pub verb : request.verb ≡ Post
+  pub target : request.target ≡ codes "/fleet/events"
+
+-- each of them is one
 abbrev pub AreAskedBy : Configuration → ℕ → List Request → Type 0
-AreAskedBy configuration place requests = AllByRecursion (λ request. actor_of configuration request.token ≡ Operator place) requests
+AreAskedBy configuration place requests = AllByRecursion (IsReportBy configuration place) requests
 
 -- the line for a reply: its body and its status as JSON (RFC 8259), whose members are in the byte order of their names
 abbrev pub told_line : Reply → List ℕ

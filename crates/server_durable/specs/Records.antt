@@ -1,5 +1,5 @@
 -- Records of requests, and their reservations in a log.
-use Rattle.std.specs.Prelude.{◌≡◌, ◌≤◌, ℕ, false, List, [], ◌∷◌, ◌++◌, length, Option, Some, None, IfSome, Result, Ok}
+use Rattle.std.specs.Prelude.{◌≡◌, ◌≤◌, ℕ, true, false, List, [], ◌∷◌, ◌++◌, length, Option, Some, None, IfSome, Result, Ok}
 use Rattle.journal_commit.specs.Durable.{AreDurable}
 use Rattle.journal_commit.specs.declared.backlog.Reservation.{Reservation}
 use Rattle.journal_entry.specs.Entries.{Entry, entry_text}
@@ -54,11 +54,12 @@ pub record IsRecordOf (configuration : Configuration) (request : Request) (text 
 abbrev pub HasRecord : Configuration → Request → List (List ℕ) → Type 0
 HasRecord configuration request texts = (text : List ℕ) × IsRecordOf configuration request text × IsAmong text texts
 
--- what is reserved is enough for the request: nothing where its call changes nothing, and else the reservation for its
--- record
+-- what is reserved is what the request needs: nothing where its call changes nothing, and the reservation for its
+-- record where it may change something
 abbrev pub IsReserved : Configuration → Request → CallReservation → Type 0
 IsReserved configuration request Reads = may_change (call_of configuration request) ≡ false
-IsReserved configuration request (Holds place) = IsRecordOf configuration request place.text.items
+IsReserved configuration request (Holds place) =
+    (may_change (call_of configuration request) ≡ true) × IsRecordOf configuration request place.text.items
 
 -- where a request was answered with success, the payload that was reserved for is among these
 abbrev pub IsSettled : CallReservation → ℕ → List (List ℕ) → Type 0

@@ -11,20 +11,22 @@ ghost use Rattle.server_state.specs.Response.{Says};
 ghost use Rattle.server_state.specs.TurnItem.{Answered};
 ghost use Rattle.server_state.specs.TurnList.{IsToldTurn};
 ghost use Rattle.server_durable.specs.DurableResponse.{IsRecordedTurn};
-ghost use Rattle.server_durable.specs.Owners.{IsOwnedBy, ReadsClients};
+ghost use Rattle.server_admission.specs.Actor.{index_of};
+ghost use Rattle.server_durable.specs.Logged.{ShowsTurns};
+ghost use Rattle.server_durable.specs.Owners.{IsOwnedBy, client_in};
 ghost use Rattle.server_durable.specs.Records.{IsReserved, IsTitled};
 ghost use Rattle.server_durable.specs.Refusals.{SaysUnheldFor, refusal_for};
+ghost use Rattle.server_durable.specs.RoomLogged.{IsLoggedRoomTurn};
 ghost use Rattle.server_durable.specs.CacheControl.{Waits};
 
 use crate::cache_control::mark_unstored;
-use crate::client_records::{AuthorRecords, OperatorRecords, lock_each};
 use crate::context::{Context, TurnRuntime};
+use crate::desk_records::{DeskRecords, lock_each};
 use crate::pending::{NoResponse, ResponseAfterSync};
 use crate::records::{
-    CallReservation, NoReservation, append_or_release, client_of, give_back, record_text,
-    refusal_for, share_index,
+    CallReservation, NoReservation, client_of, give_back, record_text, refusal_for, share_index,
 };
-use crate::room_turn::{RecordCommit, RecordPayload, RoomTurn};
+use crate::room_turn::{AuthorLog, RecordCommit, RecordPayload, RoomTurn};
 use bytes::Bytes;
 use http::Response;
 use http_body_util::Full;
@@ -51,10 +53,13 @@ pub struct DurableHall<K: HallName, N: LogName, L: Log, S: Space> {
     pub(crate) keeper: Arc<CommitLog<N, L, S>>,
     /// The empty log position: nothing has to be synced.
     pub(crate) nothing: LogPosition<N, L>,
-    /// The author's own records, which a turn of the room takes out and puts back.
-    author: Mutex<Option<AuthorRecords<K, N, L>>>,
-    /// Each operator's own records, in the configuration's order.
-    operators: Vec<Mutex<OperatorRecords<K, N, L>>>,
+    /// The author's own records, and the turns of the room whose records they are. A turn of the room takes them out and
+    /// puts them back.
+    author: Mutex<Option<AuthorLog<K, N, L>>>,
+    /// Each operator's own records, which are those of its desk's turns, in the configuration's order.
+    operators: Vec<Mutex<DeskRecords<K, N, L>>>,
+    /// Whose each payload is, the payload itself says.
+    ghost named: { N.client_of ≡ client_in K.configuration },
 }
 
 /// An answer, and the log position of all that it shows.
@@ -89,14 +94,14 @@ impl<K: HallName, N: LogName, L: Log, S: Space> DurableHall<K, N, L, S> {
         keeper: Arc<CommitLog<N, L, S>>,
         nothing: LogPosition<N, L>,
     ) -> Result<DurableHall<K, N, L, S>, AllocError>
-        requires clients { ReadsClients K.configuration N.client_of }
+        requires clients { N.client_of ≡ client_in K.configuration }
         requires nothing { nothing ≡ [] }
         ensures configured { IfOk result (λ city. configuration city.hall.config.value ≡ configuration hall.config.value) }
         ensures badged { IfOk result (λ city. city.badges ≡ badges) }
     {
         let config = hall.configuration()?;
         let operators = lock_each(alloc, &*config, &nothing)?;
-        let author = AuthorRecords::new(&nothing);
+        let author = AuthorLog::new(&nothing);
         Ok(DurableHall {
             hall,
             badges,
@@ -126,7 +131,7 @@ impl<K: HallName, N: LogName, L: Log, S: Space> DurableHall<K, N, L, S> {
         &self,
         rt: &R,
         place: usize,
-    ) -> Option<MutexGuard<'_, OperatorRecords<K, N, L>>>
+    ) -> Option<MutexGuard<'_, DeskRecords<K, N, L>>>
         ensures { IfSome result (λ guard. (mutex_guard_value guard).place ≡ place) }
     {
         let records = self.operators.get(place)?.lock(rt);
@@ -275,12 +280,13 @@ impl<K: HallName, N: LogName, L: Log, S: Space> DurableHall<K, N, L, S> {
     ///
     /// # Errors
     ///
-    /// The log failed. It also fails where the turn isn't in the desk's list, which doesn't happen.
+    /// The log failed. It also fails where the turn isn't in the desk's list, or where the operator's records aren't
+    /// those of its desk's turns so far, and then there is no turn. Neither happens.
     fn record_turn<R: Wait, E: Evaluator<Catalogue>>(
         &self,
         context: &Context<'_, R, E>,
         desk: &mut HallDesk<K>,
-        records: &mut OperatorRecords<K, N, L>,
+        records: &mut DeskRecords<K, N, L>,
         call: &OperatorCall,
         heard: WholeRequest<'_>,
         reserved: CallReservation,
@@ -295,16 +301,18 @@ impl<K: HallName, N: LogName, L: Log, S: Space> DurableHall<K, N, L, S> {
             turn.answered.answer turn.turns.front.seen.log ∥₁) }
         ensures behind { IfOk result (λ turn. turn.turns.front.seen.log
             ≡ desk.old.turns.front.seen.log ++ Answered (request_heard heard.entry) turn.answered.answer ∷ []) }
+        ensures shows { IfOk result (λ turn. ∥ ShowsTurns K.configuration N.client_of
+            (index_of (Operator desk.old.place)) turn.turns.front.seen.log turn.answered.stamp ∥₁) }
     {
         let rt = context.rt;
+        if !records.has_all(desk) {
+            give_back(rt, &*self.keeper, reserved);
+            return Err(CommitFault::Failed(self.keeper.fail(rt)));
+        }
         let note = self.hall.note(rt);
         let answer = desk.carry_out(heard, call, note.as_ref(), &mut OpenGate, context.evaluator);
         let status = answer.status();
-        let own = &mut records.own;
-        let stamp = match append_or_release(rt, &*self.keeper, own, reserved, status) {
-            Ok(stamp) => stamp,
-            Err(fault) => return Err(fault),
-        };
+        let stamp = records.settle(rt, &*self.keeper, desk, reserved, status)?;
         match desk.turns() {
             Some(turns) => Ok(RecordedTurn {
                 answered: AnswerAtPosition { answer, stamp },
@@ -315,7 +323,8 @@ impl<K: HallName, N: LogName, L: Log, S: Space> DurableHall<K, N, L, S> {
     }
 
     /// One turn of the desk of the operator at this place for one of its calls, and its record, all under the desk's
-    /// lock. The turn stands in the desk's list behind all that were told before.
+    /// lock. The turn stands in the desk's list behind all that were told before, and the operator's records up to the
+    /// log position are those of the list's turns.
     ///
     /// # Errors
     ///
@@ -335,6 +344,8 @@ impl<K: HallName, N: LogName, L: Log, S: Space> DurableHall<K, N, L, S> {
             (request_heard heard.entry) turn.answered.answer turn.answered.stamp) }
         ensures told { IfOk result (λ turn. ∥ IsToldTurn K.configuration place (request_heard heard.entry)
             turn.answered.answer turn.turns.front.seen.log ∥₁) }
+        ensures shows { IfOk result (λ turn. ∥ ShowsTurns K.configuration N.client_of (index_of (Operator place))
+            turn.turns.front.seen.log turn.answered.stamp ∥₁) }
     {
         let Some(mut desk) = self.hall.desk_at(context.rt, place) else {
             give_back(context.rt, &*self.keeper, reserved);
@@ -348,31 +359,41 @@ impl<K: HallName, N: LogName, L: Log, S: Space> DurableHall<K, N, L, S> {
     }
 
     /// One turn of the author's room for a call of the author, and its record, all under the room's lock. A
-    /// publication's record is synced before the publication is visible.
+    /// publication's record is synced before the publication is visible. The records before it are those of all turns
+    /// of the room.
     ///
     /// # Errors
     ///
-    /// The log failed.
+    /// The log failed. It also fails where there are records of other turns, which doesn't happen.
     pub(crate) fn room_turn<T: RecordPayload, R: TurnRuntime>(
         &self,
         rt: &R,
         call: AuthorCall,
         heard: WholeRequest<'_>,
         keeper: Arc<CommitLog<N, L, S>>,
-        records: AuthorRecords<K, N, L>,
-        back: &mut Option<AuthorRecords<K, N, L>>,
+        log: AuthorLog<K, N, L>,
+        back: &mut Option<AuthorLog<K, N, L>>,
         reserved: CallReservation,
     ) -> Result<AnswerAtPosition<N, L>, CommitFault>
-        requires owned { IsOwnedBy N.client_of records.own.client reserved }
+        requires owned { IsOwnedBy N.client_of log.records.own.client reserved }
         requires title { IsTitled T.text reserved }
+        requires held { reserved ≡ T.reserved }
+        requires known { log.records.own ≡ T.own }
         requires resolved { call_of K.configuration (request_heard heard) ≡ Ok (ByAuthor call) }
         requires reserved { IsReserved K.configuration (request_heard heard) reserved }
-        ensures { IfOk result (λ answered. IsRecordedTurn K.configuration Author
+        ensures recorded { IfOk result (λ answered. IsRecordedTurn K.configuration Author
             (request_heard heard.entry) answered.answer answered.stamp) }
+        ensures listed { IfOk result (λ answered. ∥ IsLoggedRoomTurn K.configuration N.client_of
+            (request_heard heard.entry) answered.answer answered.stamp ∥₁) }
     {
+        let mut guard = self.hall.room(rt);
+        let room = &mut *guard;
+        let Some(records) = log.records_of(room) else {
+            give_back(rt, &*keeper, reserved);
+            return Err(CommitFault::Failed(keeper.fail(rt)));
+        };
         let recording = RecordCommit::<T, K, R, N, L, S>::new(*rt, keeper, records, reserved);
-        let mut room = self.hall.room(rt);
-        let turn = RoomTurn::take(rt, &mut *room, call, heard, recording);
+        let turn = RoomTurn::take(rt, room, call, heard, recording);
         turn.complete(&self.hall, back)
     }
 
@@ -390,18 +411,20 @@ impl<K: HallName, N: LogName, L: Log, S: Space> DurableHall<K, N, L, S> {
     ) -> Result<AnswerAtPosition<N, L>, CommitFault>
         requires resolved { call_of K.configuration (request_heard heard) ≡ Ok (ByAuthor call) }
         requires reserved { IsReserved K.configuration (request_heard heard) reserved }
-        ensures { IfOk result (λ answered. IsRecordedTurn K.configuration Author
+        ensures recorded { IfOk result (λ answered. IsRecordedTurn K.configuration Author
             (request_heard heard.entry) answered.answer answered.stamp) }
+        ensures listed { IfOk result (λ answered. ∥ IsLoggedRoomTurn K.configuration N.client_of
+            (request_heard heard.entry) answered.answer answered.stamp ∥₁) }
     {
         let Ok(keeper) = Arc::try_clone(&self.keeper) else {
             give_back(rt, &*self.keeper, reserved);
             return Err(CommitFault::NoMemory);
         };
         let mut author = self.author.lock(rt);
-        let Some(records) = author.take() else {
+        let Some(log) = author.take() else {
             give_back(rt, &*self.keeper, reserved);
             return Err(CommitFault::Failed(self.keeper.fail(rt)));
         };
-        self.room_turn::<Brand, R>(rt, call, heard, keeper, records, &mut *author, reserved)
+        self.room_turn::<Brand, R>(rt, call, heard, keeper, log, &mut *author, reserved)
     }
 }

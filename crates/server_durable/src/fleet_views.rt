@@ -14,6 +14,7 @@ ghost use Rattle.server_durable.specs.FleetViews.{AreOwnBodies, IsAskedWithin, I
 ghost use Rattle.server_durable.specs.FleetViews.{IsRefusedByOne, IsViewOf, covers, own_request, place_of, target_for};
 
 use crate::context::Context;
+use crate::desk_records::DeskRecords;
 use crate::durable_hall::DurableHall;
 use crate::pending::{NoResponse, ResponseAfterSync};
 use crate::records::is_accepted;
@@ -153,31 +154,46 @@ enum ComplianceAnswers {
 }
 
 impl<K: HallName, N: LogName, L: Log, S: Space> DurableHall<K, N, L, S> {
-    /// What this desk answers its operator, by one turn. The operator's vehicles stay as they were.
+    /// What this desk answers its operator, by one turn that has no record. The operator's vehicles stay as they were.
+    ///
+    /// # Errors
+    ///
+    /// The log fails where the operator's records aren't those of its desk's turns, which doesn't happen.
     fn answer_view<R: Wait, E: Evaluator<Catalogue>>(
         &self,
         context: &Context<'_, R, E>,
         desk: &mut HallDesk<K>,
+        records: &mut DeskRecords<K, N, L>,
         operator: &Operator,
         view: FleetView,
         at: Moment,
-    ) -> SharedReply
+    ) -> Result<SharedReply, CommitFault>
         requires judge { E.may_judge }
+        requires owner { records.old.place ≡ desk.old.place }
         requires its { slice_get K.configuration.operators desk.old.place ≡ Some (operator_view operator.now) }
-        ensures own { IsOwnView K.configuration desk.old.place view at result }
+        ensures own { IfOk result (IsOwnView K.configuration desk.old.place view at) }
         ensures rows { (state_of desk.new.desk).rows ≡ (state_of desk.old.desk).rows }
     {
+        if !records.has_all(desk) {
+            return Err(CommitFault::Failed(self.keeper.fail(context.rt)));
+        }
         let request = own_request(operator, view, at);
         let note = self.hall.note(context.rt);
-        desk.answer_request(&request, note.as_ref(), &mut OpenGate, context.evaluator)
+        let answer = desk.answer_request(&request, note.as_ref(), &mut OpenGate, context.evaluator);
+        if records.learn(desk) {
+            Ok(answer)
+        } else {
+            Err(CommitFault::Failed(self.keeper.fail(context.rt)))
+        }
     }
 
     /// What the desk of the operator at this place answers it, by one turn under the desk's lock. The operator's
-    /// vehicles stay as they were.
+    /// vehicles stay as they were, and the turn has no record.
     ///
     /// # Errors
     ///
-    /// Out of memory.
+    /// Out of memory. The log fails where the operator's records aren't those of its desk's turns, which doesn't
+    /// happen.
     fn own_view<R: Wait, E: Evaluator<Catalogue>>(
         &self,
         context: &Context<'_, R, E>,
@@ -194,7 +210,10 @@ impl<K: HallName, N: LogName, L: Log, S: Space> DurableHall<K, N, L, S> {
         let Some(mut desk) = self.hall.desk_at(context.rt, place) else {
             return Err(CommitFault::NoMemory);
         };
-        Ok(self.answer_view(context, &mut *desk, operator, view, at))
+        let Some(mut records) = self.records_at(context.rt, place) else {
+            return Err(CommitFault::NoMemory);
+        };
+        self.answer_view(context, &mut *desk, &mut *records, operator, view, at)
     }
 
     /// What each operator's desk answers it about its compliance, one desk after another.

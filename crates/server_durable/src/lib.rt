@@ -6,6 +6,7 @@ mod batch;
 mod cache_control;
 mod client_records;
 mod context;
+mod desk_records;
 mod durable_hall;
 mod fleet_views;
 pub mod laws;

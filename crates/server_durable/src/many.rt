@@ -1,20 +1,23 @@
 //! Many reports of an operator, answered by turns of its desk with nothing between.
 ghost use Rattle.std.specs.Prelude.{◌≡◌, ◌==◌, ◌≤◌, ◌<◌, ◌++◌, IfOk, List, OnOk, length, map, not, vec_capacity};
+ghost use mathlib.Core.List.{IsPrefix};
 ghost use Rattle.std.specs.List.{AllByRecursion, list_all};
 ghost use Rattle.mds_request.specs.Configuration.{actor_of};
 ghost use Rattle.mds_request.specs.Request.{request_of};
 ghost use Rattle.mds_request.specs.Reply.{Reply, refused};
 ghost use Rattle.mds_desk.specs.Desk.{state_of};
+ghost use Rattle.server_admission.specs.Actor.{index_of};
 ghost use Rattle.server_state.specs.WholeRequest.{request_heard};
 ghost use Rattle.mds_request.specs.declared.config.Actor.TheVariants.{Operator};
+ghost use Rattle.server_durable.specs.Logged.{OwnsTurns, ShowsTurns};
 ghost use Rattle.server_durable.specs.Many.{AreAskedBy, AreRecordsOf, AreRefusedBehind, Continues, IsAnsweredInPart, IsHalted, ManyAreAnswered, SaysAll, refusal_behind};
 ghost use Rattle.journal_commit.specs.Clients.{AreOf};
 ghost use Rattle.server_durable.specs.Records.{IsRecordable, record_by};
 ghost use Rattle.server_durable.specs.CacheControl.{Waits};
 
 use crate::batch::{chunk_length, may_be_report, reports};
-use crate::client_records::OperatorRecords;
 use crate::context::Context;
+use crate::desk_records::DeskRecords;
 use crate::durable_hall::DurableHall;
 use crate::pending::{NoResponse, ResponseAfterSync};
 use crate::records::{NoReservation, is_accepted, operator_client, record_text};
@@ -249,18 +252,23 @@ impl<K: HallName, N: LogName, L: Log, S: Space> DurableHall<K, N, L, S> {
         &self,
         context: &Context<'_, R, E>,
         desk: &mut HallDesk<K>,
-        records: &mut OperatorRecords<K, N, L>,
+        records: &mut DeskRecords<K, N, L>,
         requests: &[Request<'_>],
         places: Reservations,
         known: &LogPosition<N, L>,
     ) -> Result<Replies<N, L>, Halt>
         requires judge { E.may_judge }
-        requires owned { AreOf N.client_of records.old.own.client (map (λ text. text.items) places.texts.items) }
+        requires owner { records.old.place ≡ desk.old.place }
+        requires logged { ∥ OwnsTurns K.configuration N.client_of records.old.own desk.old.turns.front.seen.log ∥₁ }
+        requires asked { AreAskedBy K.configuration desk.old.place (map request_of requests.now) }
         requires places { AreRecordsOf K.configuration (map request_of requests.now) (map (λ text. text.items) places.texts.items) }
         ensures owner { records.new.place ≡ records.old.place }
         ensures place { desk.new.place ≡ desk.old.place }
         ensures continues { IfOk result (λ replies. Continues K.configuration (state_of desk.old.desk) known.now
             (map request_of requests.now) (state_of desk.new.desk) replies.answers.items replies.stamp) }
+        ensures front { IfOk result (λ replies. IsPrefix records.new.own.texts replies.stamp) }
+        ensures shows { IfOk result (λ replies. ∥ ShowsTurns K.configuration N.client_of
+            (index_of (Operator desk.old.place)) desk.new.turns.front.seen.log replies.stamp ∥₁) }
     {
         let Ok(mut accepted) = Vec::with_capacity(context.alloc, requests.len()) else {
             self.keeper.release_all(context.rt, places);
@@ -273,10 +281,14 @@ impl<K: HallName, N: LogName, L: Log, S: Space> DurableHall<K, N, L, S> {
             return Err(Halt::Unheld(NoReservation::NoMemory));
         };
         push_flags(&mut accepted, &answers);
-        let stamp = self
-            .keeper
-            .append_chosen(context.rt, &mut records.own, known, places, &accepted)?;
+        let keeper = &*self.keeper;
+        let stamp = records.settle_run(context.rt, keeper, desk, known, places, &accepted)?;
         Ok(Replies { answers, stamp })
+    }
+
+    /// The log fails, and no response may be sent.
+    fn halt<R: Wait>(&self, rt: &R) -> Halt {
+        Halt::NotTold(CommitFault::Failed(self.keeper.fail(rt)))
     }
 
     /// A turn of this desk for each of these requests, none of which can be accepted: nothing is reserved for them.
@@ -284,31 +296,41 @@ impl<K: HallName, N: LogName, L: Log, S: Space> DurableHall<K, N, L, S> {
     /// # Errors
     ///
     /// Out of memory before the first turn, and none is carried out; or the log failed, as it does where one of them
-    /// was accepted all the same.
+    /// was accepted all the same, or isn't in the desk's list.
     fn carry_out_refused<R: Wait, E: Evaluator<Catalogue>>(
         &self,
         context: &Context<'_, R, E>,
         desk: &mut HallDesk<K>,
+        records: &mut DeskRecords<K, N, L>,
         requests: &[Request<'_>],
         known: &LogPosition<N, L>,
     ) -> Result<Replies<N, L>, Halt>
         requires judge { E.may_judge }
+        requires owner { records.old.place ≡ desk.old.place }
+        requires logged { ∥ OwnsTurns K.configuration N.client_of records.old.own desk.old.turns.front.seen.log ∥₁ }
+        requires front { IsPrefix records.old.own.texts known.now }
+        ensures owner { records.new.place ≡ records.old.place }
         ensures place { desk.new.place ≡ desk.old.place }
         ensures continues { IfOk result (λ replies. Continues K.configuration (state_of desk.old.desk) known.now
             (map request_of requests.now) (state_of desk.new.desk) replies.answers.items replies.stamp) }
+        ensures front { IfOk result (λ replies. IsPrefix records.new.own.texts replies.stamp) }
+        ensures shows { IfOk result (λ replies. ∥ ShowsTurns K.configuration N.client_of
+            (index_of (Operator desk.old.place)) desk.new.turns.front.seen.log replies.stamp ∥₁) }
     {
         let note = self.hall.note(context.rt);
         let answers = desk.answer_all(requests, note.as_ref(), &mut OpenGate, context.evaluator)?;
         if !are_refused(&answers) {
-            let failure = self.keeper.fail(context.rt);
-            return Err(Halt::NotTold(CommitFault::Failed(failure)));
+            return Err(self.halt(context.rt));
+        }
+        if !records.learn(desk) {
+            return Err(self.halt(context.rt));
         }
         let stamp = known.again();
         Ok(Replies { answers, stamp })
     }
 
     /// A turn of this desk, which is that of the operator at this place, for each request of a chunk, and their
-    /// records.
+    /// records. The operator's records up to the log position that is returned are those of all turns of the desk.
     ///
     /// # Errors
     ///
@@ -317,22 +339,30 @@ impl<K: HallName, N: LogName, L: Log, S: Space> DurableHall<K, N, L, S> {
         &self,
         context: &Context<'_, R, E>,
         desk: &mut HallDesk<K>,
-        records: &mut OperatorRecords<K, N, L>,
+        records: &mut DeskRecords<K, N, L>,
         place: usize,
         requests: &[Request<'_>],
         known: &LogPosition<N, L>,
     ) -> Result<Replies<N, L>, Halt>
         requires judge { E.may_judge }
         requires owner { records.old.place ≡ place }
+        requires desk { desk.old.place ≡ place }
         requires place { place < length K.configuration.operators }
         requires asked { AreAskedBy K.configuration place (map request_of requests.now) }
+        requires front { IsPrefix records.old.own.texts known.now }
         ensures owner { records.new.place ≡ records.old.place }
         ensures place { desk.new.place ≡ desk.old.place }
         ensures continues { IfOk result (λ replies. Continues K.configuration (state_of desk.old.desk) known.now
             (map request_of requests.now) (state_of desk.new.desk) replies.answers.items replies.stamp) }
+        ensures front { IfOk result (λ replies. IsPrefix records.new.own.texts replies.stamp) }
+        ensures shows { IfOk result (λ replies. ∥ ShowsTurns K.configuration N.client_of
+            (index_of (Operator desk.old.place)) desk.new.turns.front.seen.log replies.stamp ∥₁) }
     {
+        if !records.has_all(desk) {
+            return Err(self.halt(context.rt));
+        }
         if !requests.iter().any(|request| may_be_report(request.body)) {
-            return self.carry_out_refused(context, desk, requests, known);
+            return self.carry_out_refused(context, desk, records, requests, known);
         }
         let places = self.reserve_for_all(context.rt, context.alloc, place, requests)?;
         self.carry_out_reserved(context, desk, records, requests, places, known)
@@ -348,7 +378,7 @@ impl<K: HallName, N: LogName, L: Log, S: Space> DurableHall<K, N, L, S> {
         &self,
         context: &Context<'_, R, E>,
         desk: &mut HallDesk<K>,
-        records: &mut OperatorRecords<K, N, L>,
+        records: &mut DeskRecords<K, N, L>,
         place: usize,
         requests: &[Request<'_>],
     ) -> Result<Replies<N, L>, Halt>

@@ -1,10 +1,11 @@
 //! The record of a request, and its reservation in the log.
-ghost use Rattle.std.specs.Prelude.{◌≡◌, ◌<◌, ◌==◌, ◌++◌, IfOk, OnOk, Some, length, option_map, slice_get};
+ghost use Rattle.std.specs.Prelude.{◌≡◌, ◌≤◌, ◌<◌, ◌==◌, ◌++◌, IfOk, OnOk, Some, length, option_map, slice_get};
 ghost use mathlib.Core.List.{IsPrefix};
 ghost use Rattle.journal_commit.specs.Clients.{of_client};
 ghost use Rattle.journal_entry.specs.Requests.{client_at};
 ghost use Rattle.server_state.specs.Client.{IsWithin};
 ghost use Rattle.mds_request.specs.Configuration.{configuration};
+ghost use Rattle.mds_text.specs.Fields.{last_moment};
 ghost use Rattle.mds_request.specs.Request.{request_of};
 ghost use Rattle.mds_request.specs.declared.config.Actor.TheVariants.{Operator};
 ghost use Rattle.server_durable.specs.Owners.{IsOwnedBy, appended_by};
@@ -19,7 +20,7 @@ use journal_commit::{
 use journal_entry::{EntryClient, JournalEntry, entry_text};
 use journal_file::Log;
 use mds_request::{Actor, Call, Code, Config, Request};
-use mds_text::Id;
+use mds_text::{Id, Moment};
 use server_admission::index_of;
 use std::alloc::{AllocError, Global};
 use std::sync::Wait;
@@ -142,6 +143,11 @@ pub fn is_accepted(status: u16) -> bool
     status == SUCCESS
 }
 
+/// A moment is within the limits of an entry.
+fn is_of_an_entry(at: Moment)
+    ensures { at ≤ last_moment }
+{}
+
 /// The payload of the record of a request of this client.
 ///
 /// # Errors
@@ -155,6 +161,7 @@ pub(crate) fn record_text(
     ensures text { IfOk result (λ text. text.items ≡ record_by client (request_of request.now)) }
     ensures within { OnOk result (IsRecordable (request_of request.now)) }
 {
+    is_of_an_entry(request.at);
     let entry = JournalEntry {
         client,
         at: request.at,

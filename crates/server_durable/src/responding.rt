@@ -4,7 +4,7 @@ ghost use Rattle.mds_request.specs.Call.{call_of};
 ghost use Rattle.mds_request.specs.Configuration.{actor_of};
 ghost use Rattle.server_state.specs.WholeRequest.{request_heard};
 ghost use Rattle.server_app.specs.OperatorNames.{badges_view};
-ghost use Rattle.server_durable.specs.DurableResponse.{CityResponds, IsAnsweredBy, IsRecordedTurn};
+ghost use Rattle.server_durable.specs.DurableResponse.{IsListed, CityResponds, IsAnsweredBy, IsRecordedTurn};
 ghost use Rattle.server_durable.specs.Records.{IsReserved};
 ghost use Rattle.server_durable.specs.CacheControl.{Waits};
 
@@ -101,7 +101,9 @@ fn carry_out<K: HallName, N: LogName, R: TurnRuntime, E: Evaluator<Catalogue>, L
     requires judge { E.may_judge }
     requires resolved { call_of K.configuration (request_heard heard) ≡ Ok call }
     requires reserved { IsReserved K.configuration (request_heard heard) reserved }
-    ensures { IfOk result (λ answered. IsRecordedTurn K.configuration (actor_of K.configuration (request_heard heard.entry).token)
+    ensures turn { IfOk result (λ answered. IsRecordedTurn K.configuration (actor_of K.configuration (request_heard heard.entry).token)
+        (request_heard heard.entry) answered.answer answered.stamp) }
+    ensures listed { IfOk result (λ answered. IsListed K.configuration (actor_of K.configuration (request_heard heard.entry).token)
         (request_heard heard.entry) answered.answer answered.stamp) }
 {
     match call {

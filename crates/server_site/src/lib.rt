@@ -8,4 +8,4 @@ mod site;
 
 pub use calls::{hint_for, kind_of};
 pub use service::{CityReply, ReadyReply, SiteReply};
-pub use site::Site;
+pub use site::{Site, at_machine_clock};

@@ -1,34 +1,51 @@
 //! Commits a publication: its record is appended and synced before anybody sees it.
-ghost use Rattle.std.specs.Prelude.{◌≡◌, Err, None, IfOk, IfNone, IfSome, option_map};
+ghost use Rattle.std.specs.Prelude.{◌≡◌, Err, None, IfOk, IfNone, IfSome, IsSomeAnd, option_map};
 ghost use Rattle.std.proofs.Props.{props};
 ghost use Rattle.server_durable.specs.Owners.{IsOwnedBy};
 ghost use Rattle.journal_commit.specs.declared.commit_log.CommitFault.TheVariants as fault;
 ghost use Rattle.journal_commit.specs.declared.failure.LogFailure.{LogFailure};
+ghost use Rattle.mds_request.specs.declared.config.Actor.TheVariants.{Author};
+ghost use Rattle.server_admission.specs.Actor.{index_of};
+ghost use Rattle.server_durable.specs.Logged.{ShowsTurns};
 ghost use Rattle.server_durable.specs.Records.{IsAmong, IsShown, IsTitled, place_of};
+ghost use Rattle.server_durable.specs.RoomLogged.{IsUnderway, WillOwnTurns};
 
+use super::AuthorLog;
 use crate::client_records::AuthorRecords;
 use crate::context::TurnRuntime;
-use crate::records::{CallReservation, append_or_release, give_back};
+use crate::records::{CallReservation, append_or_release, give_back, is_accepted};
 use journal_commit::{CommitFault, CommitLog, LogName, LogPosition, Reservation, Space};
 use journal_file::Log;
 use mds_desk::PublishGuard;
 use mds_snapshot::Note;
-use server_state::{Hall, HallName};
+use server_state::{Hall, HallName, RoomTurns};
 use std::marker::{Brand, PhantomData};
 use std::sync::Arc;
 
-/// Which record it is. A request passes its reservation to a function that is generic over it, which is called with
-/// `Brand`; the proof of that call picks the payload.
+/// Which record it is: its payload, its reservation, and what the author knew of its own records before it. A request
+/// passes its reservation to a function that is generic over it, which is called with `Brand`; the proof of that call
+/// picks them.
 pub(crate) trait RecordPayload {
     ghost use Rattle.std.specs.Prelude.{ℕ, List};
+    ghost use Rattle.journal_commit.specs.Clients.{Own};
+    ghost use Rattle.server_durable.specs.declared.records.CallReservation.{CallReservation};
 
     ghost text: { List ℕ };
+
+    ghost reserved: { CallReservation };
+
+    ghost own: { Own };
 }
 
 impl RecordPayload for Brand {
     ghost use Rattle.std.specs.Prelude.{[]};
+    ghost use Rattle.server_durable.specs.declared.records.CallReservation.TheVariants.{Reads};
 
     ghost text = { [] };
+
+    ghost reserved = { Reads };
+
+    ghost own = { record { client = 0; texts = [] } };
 }
 
 /// The reservation for that record.
@@ -50,6 +67,7 @@ pub(crate) struct RecordCommit<T: RecordPayload, K: HallName, R, N: LogName, L: 
     /// What the append before a publication gave: the log position of all that was synced then.
     pub(super) shown: Option<Result<LogPosition<N, L>, CommitFault>>,
     ghost is_owned: { IfSome held (λ _. N.client_of T.text ≡ records.own.client) } by { Prim.hlevel props },
+    ghost underway: { ∥ IsUnderway N.client_of T.reserved T.own (option_map (λ it. it.place) held) records.own shown ∥₁ },
 }
 
 impl<T: RecordPayload, K: HallName, R: TurnRuntime, N: LogName, L: Log, S: Space> PublishGuard
@@ -124,6 +142,8 @@ impl<T: RecordPayload, K: HallName, R: TurnRuntime, N: LogName, L: Log, S: Space
     ) -> RecordCommit<T, K, R, N, L, S>
         requires owned { IsOwnedBy N.client_of records.own.client reserved }
         requires title { IsTitled T.text reserved }
+        requires reserved { reserved ≡ T.reserved }
+        requires own { records.own ≡ T.own }
         ensures held { option_map (λ held. held.place) result.held ≡ place_of reserved }
         ensures shown { result.shown ≡ None }
     {
@@ -138,22 +158,26 @@ impl<T: RecordPayload, K: HallName, R: TurnRuntime, N: LogName, L: Log, S: Space
 
     /// Completes the record once the request was answered with this status. The note is the latest of the hall from
     /// then on; where there is none, nothing was published. Returns the log position of all that the reply shows. The
-    /// author's own records are put back, unless the log failed.
+    /// author's own records are put back as those of these turns of the room, unless the log failed.
     ///
     /// # Errors
     ///
     /// The log failed. It also fails where a record was appended for a publication that didn't happen: the log is ahead
-    /// then.
+    /// then. So it does where the turns aren't told, or a publication is no success, which doesn't happen.
     pub(super) fn complete(
         self,
         hall: &Hall<K>,
         note: Option<Note<K>>,
-        back: &mut Option<AuthorRecords<K, N, L>>,
+        turns: Option<RoomTurns<K>>,
+        back: &mut Option<AuthorLog<K, N, L>>,
         status: u16,
     ) -> Result<LogPosition<N, L>, CommitFault>
+        requires { IfSome turns (λ all. ∥ WillOwnTurns K.configuration N.client_of T.reserved T.own status all.front.seen.log ∥₁) }
         ensures shown { IsShown L.may_be L.is_synced T.text self.shown → IfOk result (IsAmong T.text) }
         ensures held { IfNone self.shown (IfSome self.held (λ _. status ≡ 200 → IfOk result (IsAmong T.text))) }
         ensures ahead { IfSome self.shown (λ _. IfNone note ((failure : LogFailure) × (result ≡ Err (fault.Failed failure)))) }
+        ensures shows { IfOk result (λ stamp. IsSomeAnd turns (λ all.
+            ∥ ShowsTurns K.configuration N.client_of (index_of Author) all.front.seen.log stamp ∥₁)) }
     {
         let RecordCommit {
             rt,
@@ -166,17 +190,22 @@ impl<T: RecordPayload, K: HallName, R: TurnRuntime, N: LogName, L: Log, S: Space
         if let Some(note) = note {
             hall.set_note(&rt, note);
         }
+        let reserved = remaining_reservation(held);
+        let Some(all) = turns else {
+            give_back(&rt, &keeper, reserved);
+            return Err(CommitFault::Failed(keeper.fail(&rt)));
+        };
         let Some(shown) = shown else {
-            let reserved = remaining_reservation(held);
             let stamp = append_or_release(&rt, &keeper, &mut records.own, reserved, status)?;
-            *back = Some(records);
+            *back = Some(AuthorLog::of(all, records));
             return Ok(stamp);
         };
         // Nothing is reserved any more.
-        give_back(&rt, &keeper, remaining_reservation(held));
-        if is_published {
-            *back = Some(records);
-            return shown;
+        give_back(&rt, &keeper, reserved);
+        if is_published && is_accepted(status) {
+            let stamp = shown?;
+            *back = Some(AuthorLog::of(all, records));
+            return Ok(stamp);
         }
         Err(CommitFault::Failed(keeper.fail(&rt)))
     }

@@ -1,12 +1,11 @@
 use mathlib.Core.List.{map-map}
-use Rattle.std.proofs.Common.{sym, subst, ◌∙◌}
+use Rattle.std.proofs.Common.{refl, sym, subst, ◌∙◌}
 use Rattle.mds_desk.specs.Desk.{state_of}
 use Rattle.mds_request.specs.Configuration.{Configuration, configuration}
 use Rattle.server_journal.specs.Starting.{IsStartedFrom}
 use Rattle.server_state.specs.Turn.{AreDesksOf}
 use Rattle.server_state.specs.TurnList.{opened_as}
 use Rattle.journal_recovery.specs.Recovery.{server_of}
-use Rattle.server_durable.proofs.Owning.{reads_clients}
 use Rattle.ruffletuff.proofs.Placed.{desks_of_server}
 use Rattle.ruffletuff.proofs.opening.serve_opening.Goals as goal
 
@@ -18,7 +17,7 @@ of-requires-clause-desks g c =
     (desks_of_server (configuration c.args.config) server from.started.placed)
 
 pub persist_and_serve-requires-clause-clients : goal.persist_and_serve-requires-clause-clients
-persist_and_serve-requires-clause-clients g c κs within = reads_clients g.K.HallName.configuration
+persist_and_serve-requires-clause-clients g c κs within = refl
 
 pub persist_and_serve-requires-clause-listed : goal.persist_and_serve-requires-clause-listed
 persist_and_serve-requires-clause-listed g c κs within =

@@ -13,5 +13,5 @@ returns-in-Ok-carry_out g c =
     let own = g.K.HallName.configuration in
     let request = request_heard c.args.heard in
     let answered = c.in-Ok-carry_out.answered in
-    waits_turn (λ s. s.reply) (λ s. s.stamp) own (actor_of own request.token) request c.reply.result answered.answer answered.stamp c.in-Ok-carry_out.ensures
-    c.reply.ensures.says c.reply.ensures.stamp
+    waits_turn (λ s. s.reply) (λ s. s.stamp) own (actor_of own request.token) request c.reply.result answered.answer answered.stamp c.in-Ok-carry_out.ensures.turn
+    c.in-Ok-carry_out.ensures.listed c.reply.ensures.says c.reply.ensures.stamp

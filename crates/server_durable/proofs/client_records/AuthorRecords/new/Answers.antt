@@ -7,4 +7,7 @@ use Rattle.server_durable.proofs.client_records.AuthorRecords.new.Goals as goal
 pub invariant_of-result : goal.invariant_of-result
 invariant_of-result g c =
     let numbered : c.new.result.client ≡ index_of Author = search rules in
-    record { owned = author_owns g.K.HallName.configuration g.N.LogName.client_of c.new.result.client c.requires.clients numbered }
+    record {
+      owned = author_owns g.K.HallName.configuration g.N.LogName.client_of c.new.result.client c.requires.clients numbered;
+      numbered = numbered;
+    }

@@ -1,8 +1,10 @@
+use mathlib.Core.List.{IsPrefix}
 use Rattle.std.proofs.Common.{◌≡◌, ◌+◌, ◌-◌, ◌<◌, ◌≤◌, ℕ, List, [], ◌++◌, length, map, take, drop, sym, ap, subst, ◌∙◌, arith, take-add, length-drop, length-take-le}
 use Rattle.std.proofs.Math.Seq.{take-length}
 use Rattle.std.proofs.lemmas.List.{length-map, map-append, take-append-drop}
 use Rattle.mds_request.specs.Request.{Request, request_of}
 use Rattle.mds_request.specs.Reply.{Reply}
+use Rattle.mds_machine.proofs.Views.{prefix_self}
 use Rattle.mds_desk.specs.Desk.{state_of}
 use Rattle.server_durable.specs.Many.{IsAnsweredInPart}
 use Rattle.server_durable.proofs.Clients.{front_asked, rest_asked}
@@ -18,6 +20,7 @@ chunks-init g c =
           (record { configured = c.args.desk.now.configured; placed = c.args.desk.now.placed ∙ c.requires.place }));
       place = c.requires.place;
       owner = c.requires.owner;
+      front = subst (IsPrefix c.args.records.now.own.texts) (sym (c.again.ensures ∙ c.position.ensures)) (prefix_self c.args.records.now.own.texts);
       within = omega arith;
     }
 
@@ -68,6 +71,7 @@ chunks-preserved g c =
           (c.chunks.replies.answers.items ++ c.in-Ok.further.answers.items) texts next) (sym told.1) reached));
       place = c.in-Ok.ensures.place ∙ c.chunks.invariant.place;
       owner = c.in-Ok.ensures.owner ∙ c.chunks.invariant.owner;
+      front = subst (IsPrefix c.carry_out_chunk.new.records.own.texts) (sym told.1) c.in-Ok.ensures.front;
       within = omega (arith, few, left, c.chunks.invariant.within);
     }
 

@@ -1,3 +1,4 @@
+use mathlib.Core.List.{IsPrefix}
 use Rattle.std.proofs.Common.{◌≡◌, ◌≤◌, ◌-◌, length, map, take}
 use Rattle.mds_request.specs.Request.{request_of}
 use Rattle.mds_desk.specs.Desk.{state_of}
@@ -10,6 +11,7 @@ invariant-chunks g l = record {
   reached : Reached g.K.HallName.configuration l.fn.place (map request_of (take l.done l.requests)) l.replies.answers.items l.replies.stamp (state_of l.desk.desk);
   place : l.desk.place ≡ l.fn.place;
   owner : l.records.place ≡ l.fn.place;
+  front : IsPrefix l.records.own.texts l.replies.stamp;
   within : l.done ≤ length l.requests;
 }
 

@@ -3,10 +3,12 @@ use Rattle.mds_request.specs.Call.{call_of}
 use Rattle.mds_request.specs.Configuration.{Configuration}
 use Rattle.mds_request.specs.declared.call.Call.TheVariants.{Operator as OperatorAt}
 use Rattle.mds_request.specs.declared.config.Actor.TheVariants.{Operator}
+use Rattle.server_admission.specs.Actor.{index_of}
 use Rattle.server_state.proofs.Clients.{caller_within}
 use Rattle.server_state.specs.TurnList.{IsToldTurn}
 use Rattle.server_state.specs.WholeRequest.{request_heard}
 use Rattle.server_durable.specs.DurableResponse.{IsRecordedTurn}
+use Rattle.server_durable.specs.Logged.{ShowsTurns}
 use Rattle.server_durable.proofs.durable_hall.DurableHall.desk_turn.Goals as goal
 
 pub desk_at-requires : goal.desk_at-requires
@@ -30,3 +32,9 @@ returns-clause-told g c =
     let here : c.deref_mut.result.now.place ≡ c.args.place = ap (λ desk. desk.place) c.deref_mut.ensures.value ∙ c.in-Some.ensures in
     subst (λ (place : ℕ). IfOk c.record_turn.result (λ turn. ∥ IsToldTurn g.K.HallName.configuration place
     (request_heard c.args.heard) turn.answered.answer turn.turns.front.seen.log ∥₁)) here c.record_turn.ensures.told
+
+pub returns-clause-shows : goal.returns-clause-shows
+returns-clause-shows g c =
+    let here : c.deref_mut.result.now.place ≡ c.args.place = ap (λ desk. desk.place) c.deref_mut.ensures.value ∙ c.in-Some.ensures in
+    subst (λ (place : ℕ). IfOk c.record_turn.result (λ turn. ∥ ShowsTurns g.K.HallName.configuration g.N.LogName.client_of (index_of (Operator place))
+    turn.turns.front.seen.log turn.answered.stamp ∥₁)) here c.record_turn.ensures.shows

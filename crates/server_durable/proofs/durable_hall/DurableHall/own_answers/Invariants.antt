@@ -1,4 +1,4 @@
-use Rattle.std.proofs.Common.{◌≡◌, ◌≤◌, ◌-◌, ℕ, length, map}
+use Rattle.std.proofs.Common.{◌≡◌, ◌≤◌, ◌-◌, length, map}
 use Rattle.std.specs.Vec.{vec_capacity}
 use Rattle.server_durable.specs.FleetViews.{AreOwnBodies}
 use Rattle.server_durable.proofs.durable_hall.DurableHall.own_answers.Given as goal

@@ -1,6 +1,6 @@
-use Rattle.std.proofs.Common.{◌≡◌, ℕ, Some, sym, ap, subst, ◌∙◌}
+use Rattle.std.proofs.Common.{◌≡◌, ℕ, IfOk, sym, ap, subst, ◌∙◌}
 use Rattle.std.specs.List.{slice_get}
-use Rattle.mds_request.specs.Configuration.{Configuration, configuration, operator}
+use Rattle.mds_request.specs.Configuration.{Configuration, configuration}
 use Rattle.server_durable.specs.FleetViews.{IsOwnView}
 use Rattle.server_durable.proofs.durable_hall.DurableHall.own_view.Goals as goal
 
@@ -14,4 +14,4 @@ answer_view-requires-clause-its g c =
 pub returns : goal.returns
 returns g c =
     let here : c.deref_mut.result.now.place ≡ c.args.place = ap (λ desk. desk.place) c.deref_mut.ensures.value ∙ c.in-Some.ensures in
-    subst (λ (place : ℕ). IsOwnView g.K.HallName.configuration place c.args.view c.args.at c.answer_view.result) here c.answer_view.ensures.own
+    subst (λ (place : ℕ). IfOk c.answer_view.result (IsOwnView g.K.HallName.configuration place c.args.view c.args.at)) here c.answer_view.ensures.own

@@ -1,5 +1,6 @@
-use Rattle.std.proofs.Common.{◌≡◌, length, Some, sym, ap, subst, ◌∙◌}
+use Rattle.std.proofs.Common.{rules, ◌≡◌, true, length, Some, Ok, sym, ap, subst, ◌∙◌}
 use Rattle.journal_entry.specs.Requests.{client_at}
+use Rattle.journal_laws.specs.Persisted.{may_change}
 use Rattle.mds_request.specs.Configuration.{Configuration, configuration}
 use Rattle.server_state.specs.Client.{IsWithin}
 use Rattle.server_state.specs.WholeRequest.{request_heard}
@@ -19,7 +20,9 @@ returns-in-Ok g c =
     let request = request_heard c.args.heard.now in
     let client = c.client_of-client.result in
     let shared : configuration c.deref.result.now ≡ own = ap configuration c.deref.ensures ∙ c.in_ok-config.ensures ∙ c.args.self.now.hall.configured in
-    record_of_call own request c.args.call.now client c.in-Ok.place.text.items c.requires
+    let changes : may_change (Ok c.args.call.now) ≡ true = search rules in
+    let its = record_of_call own request c.args.call.now client c.in-Ok.place.text.items c.requires
     (subst (λ (cfg : Configuration). client_at cfg (caller_of c.args.call.now) ≡ Some client) shared c.client_of-client.ensures)
     (ap (λ text. text.items) c.in-Ok.ensures ∙ c.in_ok-text.ensures.text ∙ ap (record_by client) c.request-request.ensures)
-    (subst IsRecordable c.request-request.ensures c.in_ok-text.ensures.within)
+    (subst IsRecordable c.request-request.ensures c.in_ok-text.ensures.within) in
+    (ap may_change c.requires ∙ changes, its)

@@ -1,12 +1,38 @@
-use Rattle.std.proofs.Common.{◌≡◌, IfOk, IfSome, IfNone, Ok, option_map, inl, inr, ap, subst, ◌∙◌, arith}
+use Rattle.std.proofs.Common.{◌≡◌, IfOk, IfSome, IfNone, Ok, option_map, inl, inr, sym, ap, subst, ◌∙◌, ℕ, arith}
 use Rattle.mds_request.specs.declared.config.Actor.TheVariants.{Author}
 use Rattle.server_state.specs.WholeRequest.{request_heard}
-use Rattle.server_durable.specs.Records.{IsAmong, IsSettled}
+use Rattle.journal_commit.specs.Clients.{Own}
+use Rattle.server_durable.specs.Logged.{OwnsTurns}
+use Rattle.server_durable.specs.Owners.{IsOwnedBy}
+use Rattle.server_durable.specs.Records.{IsAmong, IsReserved, IsSettled}
+use Rattle.server_durable.proofs.RoomLogging.{logged_outcome}
 use Rattle.server_durable.proofs.Turns.{of_some, recorded_outcome, settled_refused, settled_shown, settled_unasked}
 use Rattle.server_durable.proofs.durable_hall.DurableHall.room_turn.Goals as goal
 
-pub returns : goal.returns
-returns g c =
+pub new-recording-requires-clause-owned : goal.new-recording-requires-clause-owned
+new-recording-requires-clause-owned g c =
+    let same = ap (λ records. records.own.client) c.in-Some.ensures.same in
+    subst (λ (client : ℕ). IsOwnedBy g.N.LogName.client_of client c.args.reserved) (sym same) c.requires.owned
+
+pub new-recording-requires-clause-own : goal.new-recording-requires-clause-own
+new-recording-requires-clause-own g c = ap (λ records. records.own) c.in-Some.ensures.same ∙ c.requires.known
+
+pub take-turn-requires-clause-reserved : goal.take-turn-requires-clause-reserved
+take-turn-requires-clause-reserved g c = subst (IsReserved g.K.HallName.configuration (request_heard c.args.heard)) c.requires.held c.requires.reserved
+
+pub take-turn-requires-clause-owns : goal.take-turn-requires-clause-owns
+take-turn-requires-clause-owns g c =
+    let same = ap (λ records. records.own) c.in-Some.ensures.same ∙ c.requires.known in
+    subst (λ (own : Own). ∥ OwnsTurns g.K.HallName.configuration g.N.LogName.client_of own c.deref_mut-room.result.now.turns.front.seen.log ∥₁) same c.in-Some.ensures.owns
+
+pub returns-clause-listed : goal.returns-clause-listed
+returns-clause-listed g c =
+    let turn = c.take-turn in
+    logged_outcome g.K.HallName.configuration g.N.LogName.client_of (λ turns. turns.front.seen.log) (λ answered. answered.answer) (λ answered. answered.stamp)
+    (request_heard c.args.heard) turn.result.answer turn.result.turns c.complete.result c.complete.ensures.answer turn.ensures.told c.complete.ensures.shows
+
+pub returns-clause-recorded : goal.returns-clause-recorded
+returns-clause-recorded g c =
     let turn = c.take-turn in
     let reply = turn.result.answer in
     let status = reply.status in

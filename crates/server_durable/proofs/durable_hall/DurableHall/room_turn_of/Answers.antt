@@ -8,7 +8,7 @@ use Rattle.server_durable.proofs.durable_hall.DurableHall.room_turn_of.Goals as 
 pub room_turn-requires-clause-owned : goal.room_turn-requires-clause-owned
 room_turn-requires-clause-owned g c =
     let configuration = g.K.HallName.configuration in
-    let mine = c.in-Some.records in
+    let mine = c.in-Some.log.records in
     let request = request_heard c.args.heard in
     owned_by configuration g.N.LogName.client_of Author mine.own.client request c.args.reserved mine.owned
     (asks configuration request (ByAuthor c.args.call) c.requires.resolved) c.requires.reserved

@@ -9,7 +9,7 @@ use Rattle.mds_request.specs.declared.config.Actor.TheVariants.{Operator}
 use Rattle.server_admission.specs.Actor.{index_of}
 use Rattle.server_durable.proofs.Clients.{client_named}
 use Rattle.server_durable.proofs.Owning.{owns}
-use Rattle.server_durable.proofs.client_records.OperatorRecords.new.Goals as goal
+use Rattle.server_durable.proofs.desk_records.DeskRecords.new.Goals as goal
 
 pub invariant_of-result : goal.invariant_of-result
 invariant_of-result g c =
@@ -22,4 +22,9 @@ invariant_of-result g c =
     let spelled : IsId id = ap parsed (sym c.in_ok-printed.ensures.text) ∙ c.in_ok-printed.ensures.back in
     let back : actor_by own (OperatorBy id) ≡ Operator place = search rules in
     let numbered : c.new.result.client ≡ index_of (Operator place) = search rules in
-    record { owned = owns own g.N.LogName.client_of (Operator place) (OperatorBy id) c.new.result.client c.requires.clients known spelled back numbered }
+    record {
+      owned = owns own g.N.LogName.client_of (Operator place) (OperatorBy id) c.new.result.client c.requires.clients known spelled back numbered;
+      numbered = numbered;
+      of_desk = search rules;
+      logged = ∣ (λ kept. c.new.ensures.texts) ∣₁;
+    }
