@@ -216,7 +216,7 @@ fn finish<K: HallName, N: LogName, L: Log, S: Space, R: ServerHost, P: Drop>(
         Ok(ServeOutcome { answers, outcome }) => {
             if let Some(site) = answers {
                 let state = site.state;
-                state.city.finish(rt);
+                let _all = state.city.finish(rt);
             }
             outcome.is_ok()
         }

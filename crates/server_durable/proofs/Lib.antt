@@ -21,3 +21,4 @@ mod ViewReplies
 mod Ways
 mod Journals
 mod LoggedHalls
+mod EndedHalls

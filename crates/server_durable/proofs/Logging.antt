@@ -6,7 +6,7 @@ use Rattle.std.specs.List.{list_all}
 use Rattle.std.proofs.Math.Logic.{∥∥₁_map, ∥∥₁_map₂}
 use Rattle.std.proofs.lemmas.List.{append-nil, map-append}
 use Rattle.std.proofs.lemmas.List.Elements.{filter-append}
-use Rattle.journal_commit.specs.Clients.{Own, of_client}
+use Rattle.journal_commit.specs.Clients.{GoesOnBy, Own, of_client}
 use Rattle.journal_commit.specs.Durable.{chosen}
 use Rattle.journal_commit.proofs.Fronts.{prefix_whole}
 use Rattle.journal_laws.specs.Persisted.{is_kept, kept, may_change, requests_in}
@@ -137,14 +137,14 @@ module _ (configuration : Configuration) (client_of : List ℕ → ℕ) where
   Known items lost own turns = lost ≡ false → MatchOption turns (own.texts ≡ []) (λ t. OwnsTurns configuration client_of own (items t))
 
   -- a desk that took no turn yet
-  pub owns_opened : {T : Type 0} (turns : Option T) (items : T → List TurnItem) (lost : Bool) (own : Own) (place : ℕ) (all : List TurnItem) (d : DeskState)
-      → ∥ Known items lost own turns ∥₁ → lost ≡ false → turns ≡ None → ∥ AreTurnsOf configuration place all d ∥₁ → length all ≡ 1
+  pub owns_opened : {T : Type 0} (turns : Option T) (items : T → List TurnItem) (lost : Bool) (own : Own) (place : ℕ) (all : List TurnItem)
+      → ∥ Known items lost own turns ∥₁ → lost ≡ false → turns ≡ None → ∥ ((d : DeskState) × AreTurnsOf configuration place all d) ∥₁ → length all ≡ 1
       → ∥ OwnsTurns configuration client_of own all ∥₁
-  owns_opened (Some t) items lost own place all d known kept none are alone = absurd cc
-  owns_opened None items lost own place all d known kept none are alone =
+  owns_opened (Some t) items lost own place all known kept none are alone = absurd cc
+  owns_opened None items lost own place all known kept none are alone =
       ∥∥₁_map₂ known are (λ knows turns.
       subst (λ (texts : List (List ℕ)). AreLogged configuration all (of_client client_of own.client texts)) (sym (knows kept))
-      (opened_logged configuration place all d turns alone))
+      (opened_logged configuration place all turns.0 turns.1 alone))
 
   -- a desk whose turns are just these
   pub owns_same : {T : Type 0} (turns : Option T) (t : T) (items : T → List TurnItem) (lost : Bool) (own : Own) (all : List TurnItem)
@@ -153,6 +153,16 @@ module _ (configuration : Configuration) (client_of : List ℕ → ℕ) where
   owns_same (Some u) t items lost own all known kept some same =
       let here : items u ≡ all = ap items (the_same u t some) ∙ same in
       ∥∥₁_map known (λ knows. subst (OwnsTurns configuration client_of own) here (knows kept))
+
+  -- in a log that has no others of the client's
+  pub whole_logged : (own : Own) (client : ℕ) (items : List TurnItem) (position all : List (List ℕ)) → ∥ OwnsTurns configuration client_of own items ∥₁
+      → own.client ≡ client → GoesOnBy client_of own [] position → position ≡ all
+      → ∥ AreLogged configuration items (of_client client_of client all) ∥₁
+  whole_logged own client items position all owns number goes same =
+      let mine : of_client client_of own.client own.texts ≡ of_client client_of client all =
+      sym (goes.records ∙ append-nil (of_client client_of own.client own.texts))
+      ∙ ap (λ (n : ℕ). of_client client_of n position) number ∙ ap (of_client client_of client) same in
+      ∥∥₁_map owns (λ are. subst (AreLogged configuration items) mine are)
 
   -- a turn more
   pub turn_more : (own : Own) (items all : List TurnItem) (request : Request) (reply : Reply) (reserved : CallReservation)

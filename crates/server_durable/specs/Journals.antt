@@ -1,6 +1,6 @@
 -- A log whose records are a journal of what was done.
 use mathlib.Core.List.{IsPrefix}
-use Rattle.std.specs.Prelude.{◌≡◌, ◌<◌, ◌^◌, ℕ, false, List, ◌++◌, length, map, Some, slice_get}
+use Rattle.std.specs.Prelude.{◌≡◌, ◌<◌, ◌+◌, ◌^◌, ℕ, false, List, [], ◌∷◌, ◌++◌, length, map, Some, slice_get}
 use Rattle.std.specs.List.{AllByRecursion}
 use Rattle.journal_commit.specs.Clients.{of_client}
 use Rattle.journal_entry.specs.Entries.{Entry, IsClient, IsEntry, entry_text}
@@ -10,6 +10,7 @@ use Rattle.journal_laws.specs.Persisted.{kept, requests_in}
 use Rattle.journal_laws.specs.Servers.{kept_turns}
 use Rattle.journal_recovery.specs.Laws.{GoesOn, IsJournalOf, IsServerOf}
 use Rattle.journal_recovery.specs.Recovery.{Server}
+use Rattle.mds_catalog.specs.Publication.{Publication}
 use Rattle.mds_desk.specs.Desk.{DeskState}
 use Rattle.mds_desk.specs.Room.{RoomState, held_in}
 use Rattle.mds_machine.specs.Fronts.{Turn}
@@ -88,5 +89,52 @@ HallsGoOn =
     → (turns : ℕ → List Turn)
     × GoesOn configuration s (exchanges_in room) r.publications turns
     × IsJournalOf configuration entries (exchanges_in room) turns
+    × ((place : ℕ) (operator : Operator) → slice_get configuration.operators place ≡ Some operator
+    → turn_exchanges (turns place) ≡ exchanges_in (items place))
+
+-- What the desk at this place did until its hall ended: the list of its turns begins with this opening, and the log's
+-- payloads of its operator are the records of these turns, in their order, and no others. All that it knows was published.
+pub record IsEndedDesk (configuration : Configuration) (publications : List Publication) (texts : List (List ℕ)) (place : ℕ)
+    (opening : List TurnItem) : Type 0 where
+  pub after : DeskState
+  pub items : List TurnItem
+  pub opened : IsPrefix opening items
+  pub turns : AreTurnsOf configuration place items after
+  pub logged : AreLogged configuration items (of_client (client_in configuration) (index_of (OperatorAt place)) texts)
+  pub known : IsPrefix after.known publications
+
+-- the same of the desks from this place on, each with its opening
+abbrev pub AreEndedDesks : Configuration → List Publication → List (List ℕ) → ℕ → List (List TurnItem) → Type 0
+AreEndedDesks configuration publications texts place [] = Unit {0}
+AreEndedDesks configuration publications texts place (opening ∷ openings) =
+    IsEndedDesk configuration publications texts place opening × AreEndedDesks configuration publications texts (place + 1) openings
+
+-- the same of all desks of these openings but those of the first ones, which are the rest
+pub record AreEndedBehind (configuration : Configuration) (publications : List Publication) (texts : List (List ℕ))
+    (rest openings : List (List TurnItem)) : Type 0 where
+  pub ended : List (List TurnItem)
+  pub openings_are : openings ≡ rest ++ ended
+  pub each : AreEndedDesks configuration publications texts (length rest) ended
+
+-- What a hall did until it ended, and its log: the list of the room's turns begins with its opening, the log's payloads
+-- of the author are the records of these turns, in their order, and no others; and so of the desks, in their order.
+pub record EndsLogged (configuration : Configuration) (opening : List TurnItem) (openings : List (List TurnItem)) (texts : List (List ℕ)) : Type 0 where
+  pub r : RoomState
+  pub room : List TurnItem
+  pub opened : IsPrefix opening room
+  pub turns : AreRoomTurnsOf configuration room r
+  pub logged : AreLogged configuration room (of_client (client_in configuration) (index_of Author) texts)
+  pub desks : AreEndedDesks configuration r.publications texts 0 openings
+
+-- A hall that was opened over this room and these desks, and so ended, goes on from these by the turns of its lists; and
+-- its log, read as entries, is the journal of these.
+abbrev pub EndedHallsGoOn : Type 0
+EndedHallsGoOn =
+    (configuration : Configuration) (s : Server) (entries : List Entry)
+    → TellsClients configuration → AllByRecursion IsEntry entries → IsServerOf configuration s
+    → (ends : EndsLogged configuration (room_opened_as (held_in s.room)) (map opened_as s.desks) (map entry_text entries))
+    → (items : ℕ → List TurnItem) × (turns : ℕ → List Turn)
+    × GoesOn configuration s (exchanges_in ends.room) ends.r.publications turns
+    × IsJournalOf configuration entries (exchanges_in ends.room) turns
     × ((place : ℕ) (operator : Operator) → slice_get configuration.operators place ≡ Some operator
     → turn_exchanges (turns place) ≡ exchanges_in (items place))

@@ -4,9 +4,11 @@ ghost use Rattle.std.specs.Option.{ForSome};
 ghost use mathlib.Core.List.{IsPrefix};
 ghost use Rattle.journal_commit.specs.Clients.{AreOf, of_client};
 ghost use Rattle.journal_commit.specs.Durable.{AreLast, chosen};
+ghost use Rattle.mds_desk.specs.Desk.{DeskState, state_of};
 ghost use Rattle.mds_request.specs.Configuration.{configuration};
 ghost use Rattle.mds_request.specs.declared.config.Actor.TheVariants.{Operator};
 ghost use Rattle.server_admission.specs.Actor.{index_of};
+ghost use Rattle.server_state.specs.TurnList.{AreTurnsOf};
 ghost use Rattle.server_durable.specs.Logged.{AreLogged, OwnsTurns, ShowsTurns};
 ghost use Rattle.server_durable.specs.Owners.{IsOwnedBy, OwnsRecords, ReadsClients, appended_by};
 ghost use Rattle.server_durable.specs.Records.{IsSettled};
@@ -19,7 +21,7 @@ use journal_entry::{EntryClient, actor_by};
 use journal_file::Log;
 use mds_request::{Actor, Config};
 use server_admission::index_of;
-use server_state::{DeskTurns, HallDesk, HallName};
+use server_state::{DeskTurns, EndedDesk, HallDesk, HallName};
 use std::alloc::{AllocError, Global};
 use std::mem;
 use std::sync::{Mutex, Wait};
@@ -91,15 +93,45 @@ impl<K: HallName, N: LogName, L: Log> DeskRecords<K, N, L> {
         ensures { result ≡ true
             → ∥ OwnsTurns K.configuration N.client_of self.now.own desk.now.turns.front.seen.log ∥₁ }
     {
+        match desk.turns() {
+            Some(turns) => self.has_turns(&turns),
+            None => false,
+        }
+    }
+
+    /// Whether they are the records of these turns, which are all of a desk's from when it was put behind its lock.
+    fn has_turns(&self, turns: &DeskTurns<K>) -> bool
+        requires { ∥ ((d : DeskState) × AreTurnsOf K.configuration turns.now.place turns.now.front.seen.log d) ∥₁ }
+        ensures { result ≡ true → ∥ OwnsTurns K.configuration N.client_of self.now.own turns.now.front.seen.log ∥₁ }
+    {
         if self.is_lost {
             return false;
         }
-        let Some(turns) = desk.turns() else {
-            return false;
-        };
         match &self.turns {
-            Some(known) => are_same(known, &turns),
+            Some(known) => are_same(known, turns),
             None => turns.len() == 1,
+        }
+    }
+
+    /// Whether they are the records of all turns of this desk, which takes no more, and the log position is that of all
+    /// that was appended by now and has no others of this operator. It always is so where nothing is appended any more.
+    pub(crate) fn are_whole<R: Wait, S: Space>(
+        &self,
+        rt: &R,
+        keeper: &CommitLog<N, L, S>,
+        ended: &EndedDesk<K>,
+        all: &LogPosition<N, L>,
+    ) -> bool
+        requires { ∥ AreTurnsOf K.configuration ended.now.turns.place ended.now.turns.front.seen.log (state_of ended.now.desk) ∥₁ }
+        ensures { result ≡ true → ∥ AreLogged K.configuration ended.now.turns.front.seen.log
+            (of_client N.client_of (index_of (Operator self.now.place)) all.now) ∥₁ }
+    {
+        if !self.has_turns(&ended.turns) {
+            return false;
+        }
+        match keeper.whole_position(rt, &self.own) {
+            Some(position) => position.is_of(all),
+            None => false,
         }
     }
 

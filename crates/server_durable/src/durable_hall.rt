@@ -1,5 +1,5 @@
 //! A hall whose accepted changes are persisted.
-ghost use Rattle.std.specs.Prelude.{◌≡◌, ◌++◌, ◌∷◌, [], IfErr, IfOk, IfSome, Ok, Err};
+ghost use Rattle.std.specs.Prelude.{◌≡◌, ◌++◌, ◌∷◌, [], IfErr, IfOk, IfSome, Ok, Err, map};
 ghost use Rattle.std.specs.Sync.Mutex.{mutex_guard_value};
 ghost use Rattle.mds_request.specs.Call.{call_of};
 ghost use Rattle.mds_request.specs.Configuration.{configuration};
@@ -12,6 +12,7 @@ ghost use Rattle.server_state.specs.TurnItem.{Answered};
 ghost use Rattle.server_state.specs.TurnList.{IsToldTurn};
 ghost use Rattle.server_durable.specs.DurableResponse.{IsRecordedTurn};
 ghost use Rattle.server_admission.specs.Actor.{index_of};
+ghost use Rattle.server_durable.specs.Journals.{EndsLogged};
 ghost use Rattle.server_durable.specs.Logged.{ShowsTurns};
 ghost use Rattle.server_durable.specs.Owners.{IsOwnedBy, client_in};
 ghost use Rattle.server_durable.specs.Records.{IsReserved, IsTitled};
@@ -22,6 +23,7 @@ ghost use Rattle.server_durable.specs.CacheControl.{Waits};
 use crate::cache_control::mark_unstored;
 use crate::context::{Context, TurnRuntime};
 use crate::desk_records::{DeskRecords, lock_each};
+use crate::ending::whole_position;
 use crate::pending::{NoResponse, ResponseAfterSync};
 use crate::records::{
     CallReservation, NoReservation, client_of, give_back, record_text, refusal_for, share_index,
@@ -112,17 +114,26 @@ impl<K: HallName, N: LogName, L: Log, S: Space> DurableHall<K, N, L, S> {
         })
     }
 
-    /// Ends the author's room: no request can come any more.
-    pub fn finish<R: Wait>(self, rt: &R) {
+    /// Ends the author's room: no request can come any more. Gives the log position of all that was appended, whose
+    /// payloads are, client by client, the records of all turns of the room and of the desks, in their order, and no
+    /// others. It always does: were it otherwise, none would be given.
+    pub fn finish<R: Wait>(self, rt: &R) -> Option<LogPosition<N, L>>
+        ensures { IfSome result (λ all. ∥ EndsLogged K.configuration self.hall.room_opening.front.seen.log
+            (map (λ desk. desk.opening.front.seen.log) self.hall.desks.items) all ∥₁) }
+    {
         let Self {
             hall,
             badges: _badges,
-            keeper: _keeper,
+            keeper,
             nothing: _nothing,
-            author: _author,
-            operators: _operators,
+            author,
+            operators,
         } = self;
-        hall.finish(rt);
+        let mut end = hall.end();
+        let author = author.into_inner();
+        let all = whole_position(rt, &*keeper, &mut end, author, operators);
+        end.finish(rt);
+        all
     }
 
     /// The records of the operator at this place, once their lock is taken, within that of its desk. All that is known

@@ -1,5 +1,5 @@
 //! Laws of a city's responses. The functions do nothing: their contracts are the laws.
-ghost use Rattle.server_durable.specs.Journals.{HallsGoOn, JournalsGoOn, LogsAreJournals};
+ghost use Rattle.server_durable.specs.Journals.{EndedHallsGoOn, HallsGoOn, JournalsGoOn, LogsAreJournals};
 ghost use Rattle.server_durable.specs.Laws.{AppCallsAreNotKept, ManyAreKept, OperatorsAreToldTheirOwn, RecordedAreKept, RespondsAsAHall, ViewsAreAskedByTheOperator, ViewsAreByOwnRequests, ViewsAreByOwnRows, ViewsLeaveRows, WithdrawalsAreOfOwnPolicies};
 
 use journal_file::Log;
@@ -66,4 +66,10 @@ pub fn journals_go_on()
 /// journal of what it did.
 pub fn halls_go_on()
     ensures { HallsGoOn }
+{}
+
+/// What a hall did until it ended goes on from the room and desks over which it was opened; and its log, read as entries,
+/// is the journal of what it did.
+pub fn ended_halls_go_on()
+    ensures { EndedHallsGoOn }
 {}

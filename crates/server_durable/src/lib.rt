@@ -8,6 +8,7 @@ mod client_records;
 mod context;
 mod desk_records;
 mod durable_hall;
+mod ending;
 mod fleet_views;
 pub mod laws;
 mod many;

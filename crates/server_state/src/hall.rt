@@ -1,6 +1,7 @@
 //! The server's state: the author's room and the desks, each behind a lock of its own.
 ghost use Rattle.std.specs.Prelude.{◌≡◌, ◌<◌, ◌++◌, ◌∷◌, [], IfOk, IfSome, Ok, Some, length, map};
 ghost use mathlib.Core.List.{IsPrefix};
+ghost use Rattle.std.specs.Mem.{manually_drop_value};
 ghost use Rattle.std.specs.Sync.Mutex.{mutex_guard_value};
 ghost use Rattle.std.specs.List.{range_with_len};
 ghost use Rattle.mds_request.specs.Call.{call_of};
@@ -14,7 +15,7 @@ ghost use Rattle.server_state.specs.Client.{IsWithin};
 ghost use Rattle.server_state.specs.WholeRequest.{request_heard};
 ghost use Rattle.server_state.specs.Resolved.{call_in};
 ghost use Rattle.server_state.specs.Turn.{AreDesksOf, RoomReplies};
-ghost use Rattle.server_state.specs.RoomTurns.{room_opened_as};
+ghost use Rattle.server_state.specs.RoomTurns.{AreRoomTurnsOf, room_opened_as};
 ghost use Rattle.server_state.specs.TurnList.{AreTurnsOf, opened_as};
 ghost use Rattle.server_state.specs.TurnLists.{books_of, room_book_of};
 
@@ -287,19 +288,107 @@ impl<K: HallName> Hall<K> {
         Arc::try_clone(&self.config)
     }
 
-    /// Ends the author's room, and gives out the desks: no request can come any more.
-    pub fn finish<R: Wait>(self, rt: &R) -> EndedDesks<K>
-        ensures { result.desks ≡ self.desks }
+    /// Takes the room and the desks out, after their last turns: no request can come any more. The
+    /// room is still to be ended.
+    pub fn end(self) -> HallEnd<K>
+        ensures opening { result.opening ≡ self.room_opening }
+        ensures desks { result.desks ≡ self.desks }
     {
         let Self {
             config: _config,
             routes: _routes,
-            room_opening: _room_opening,
+            room_opening,
             room,
             desks,
             latest: _latest,
         } = self;
-        room.into_inner().finish(rt);
+        HallEnd {
+            opening: room_opening,
+            room: room.into_inner(),
+            desks,
+        }
+    }
+
+    /// Ends the author's room, and gives out the desks: no request can come any more.
+    pub fn finish<R: Wait>(self, rt: &R) -> EndedDesks<K>
+        ensures { result.desks ≡ self.desks }
+    {
+        self.end().finish(rt)
+    }
+}
+
+/// The room and the desks of a hall after their last turns. It has to be ended by `finish`.
+#[derive(Drop)]
+pub struct HallEnd<K: HallName> {
+    /// The list of the room's turns as the room was put behind its lock.
+    opening: RoomTurns<K>,
+    room: HallRoom<K>,
+    desks: Vec<DeskLock<K>>,
+}
+
+impl<K: HallName> HallEnd<K> {
+    /// The author's room.
+    pub fn room(&self) -> &HallRoom<K>
+        ensures { result.now ≡ self.now.room }
+    {
+        &self.room
+    }
+
+    /// All turns of the room, from when it was put behind its lock. None is given where a turn isn't
+    /// in its list, which doesn't happen.
+    pub fn room_turns(&self) -> Option<RoomTurns<K>>
+        ensures begins { IfSome result (λ turns. IsPrefix self.now.opening.front.seen.log turns.front.seen.log) }
+        ensures whole { IfSome result (λ turns. turns.front.seen.log ≡ self.now.room.turns.front.seen.log) }
+        ensures turns { IfSome result (λ turns. ∥ AreRoomTurnsOf K.configuration turns.front.seen.log (room_of (manually_drop_value self.now.room.room)) ∥₁) }
+    {
+        let turns = self.room.turns()?;
+        if self.opening.begins(&turns) {
+            Some(turns)
+        } else {
+            None
+        }
+    }
+
+    /// How many desks are left to be taken out.
+    pub fn len(&self) -> usize
+        ensures { result ≡ length self.now.desks.items }
+    {
+        self.desks.len()
+    }
+
+    /// The last of the desks that are left, which is taken out, with all its turns, from the state in
+    /// which it was put behind its lock. All that it knows is published in the room. None is given
+    /// where no desk is left, or where a turn isn't in its list, the desk isn't at its place or knows
+    /// what isn't published, which doesn't happen.
+    pub fn pop(&mut self) -> Option<EndedDesk<K>>
+        ensures opening { IfSome result (λ ended. map (λ desk. desk.opening.front.seen.log) self.old.desks.items
+            ≡ map (λ desk. desk.opening.front.seen.log) self.new.desks.items ++ ended.opening.front.seen.log ∷ []) }
+        ensures begins { IfSome result (λ ended. IsPrefix ended.opening.front.seen.log ended.turns.front.seen.log) }
+        ensures turns { IfSome result (λ ended. ∥ AreTurnsOf K.configuration ended.turns.place ended.turns.front.seen.log (state_of ended.desk) ∥₁) }
+        ensures place { IfSome result (λ ended. ended.turns.place ≡ length self.new.desks.items) }
+        ensures placed { IfSome result (λ ended. ended.place ≡ length self.new.desks.items) }
+        ensures published { IfSome result (λ ended. IsPrefix (state_of ended.desk).known (room_of (manually_drop_value self.new.room.room)).publications) }
+        ensures room { self.new.room ≡ self.old.room }
+    {
+        let last = self.desks.pop()?;
+        let ended = last.finish()?;
+        if ended.place == self.desks.len() && self.room.has_published(&ended.desk) {
+            Some(ended)
+        } else {
+            None
+        }
+    }
+
+    /// Ends the author's room, and gives out the desks that are left.
+    pub fn finish<R: Wait>(self, rt: &R) -> EndedDesks<K>
+        ensures { result.desks ≡ self.desks }
+    {
+        let Self {
+            opening: _opening,
+            room,
+            desks,
+        } = self;
+        room.finish(rt);
         EndedDesks { desks }
     }
 }

@@ -17,7 +17,7 @@ mod whole_request;
 
 pub use answering::{HallContext, ToldTurn, respond, respond_with, take_desk_turn};
 pub use early::read_whole;
-pub use hall::{EndedDesks, Hall};
+pub use hall::{EndedDesks, Hall, HallEnd};
 pub use hall_name::{HallName, SharedHallName};
 pub use http_request::{target, token};
 pub use locks::{EndedDesk, HallDesk, HallRoom};

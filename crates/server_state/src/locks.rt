@@ -261,9 +261,12 @@ impl<K: HallName> DeskLock<K> {
         })
     }
 
-    /// Takes the desk out of its lock, once no thread has it any more, with all its turns.
+    /// Takes the desk out of its lock, once no thread has it any more, with all its turns. None is
+    /// given where a turn isn't in its list, or the desk isn't that of this lock's index: neither
+    /// happens.
     pub(crate) fn finish(self) -> Option<EndedDesk<K>>
         ensures opening { IfSome result (λ ended. ended.opening ≡ self.opening) }
+        ensures place { IfSome result (λ ended. ended.turns.place ≡ ended.place) }
         ensures begins { IfSome result (λ ended. IsPrefix ended.opening.front.seen.log ended.turns.front.seen.log) }
         ensures turns { IfSome result (λ ended. ∥ AreTurnsOf K.configuration ended.turns.place ended.turns.front.seen.log (state_of ended.desk) ∥₁) }
     {
@@ -273,6 +276,9 @@ impl<K: HallName> DeskLock<K> {
             desk,
         } = self;
         let ended = desk.into_inner();
+        if ended.place != place {
+            return None;
+        }
         let turns = ended.turns()?;
         if !opening.begins(&turns) {
             return None;
@@ -417,6 +423,13 @@ impl<K: HallName> HallRoom<K> {
         } else {
             None
         }
+    }
+
+    /// Whether all that a desk of the same opening knows is published in this room.
+    pub(crate) fn has_published(&self, desk: &Desk<K>) -> bool
+        ensures { result ≡ true → IsPrefix (state_of desk.now).known (room_of (manually_drop_value self.now.room)).publications }
+    {
+        self.room.has_published(desk)
     }
 
     /// Ends the room.

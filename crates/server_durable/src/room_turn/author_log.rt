@@ -1,12 +1,16 @@
 //! What is known of the author's records in the log between the turns of the room.
 ghost use Rattle.std.specs.Prelude.{◌≡◌, [], IfSome, MatchOption, true};
-ghost use Rattle.server_durable.specs.Logged.{OwnsTurns};
+ghost use Rattle.journal_commit.specs.Clients.{of_client};
+ghost use Rattle.mds_request.specs.declared.config.Actor.TheVariants.{Author};
+ghost use Rattle.server_admission.specs.Actor.{index_of};
+ghost use Rattle.server_durable.specs.Logged.{AreLogged, OwnsTurns};
 ghost use Rattle.server_durable.specs.Owners.{ReadsClients};
 
 use crate::client_records::AuthorRecords;
-use journal_commit::{LogName, LogPosition};
+use journal_commit::{CommitLog, LogName, LogPosition, Space};
 use journal_file::Log;
 use server_state::{HallName, HallRoom, RoomTurns};
+use std::sync::Wait;
 
 /// The author's own records, and all turns of the room whose records they are: there are none of them before the first
 /// turn.
@@ -64,5 +68,20 @@ impl<K: HallName, N: LogName, L: Log> AuthorLog<K, N, L> {
         } else {
             None
         }
+    }
+
+    /// The log position of all that was appended by now, where the author's records there are just those of all turns of
+    /// this room. They always are where nothing is appended any more.
+    pub(crate) fn whole_position<R: Wait, S: Space>(
+        self,
+        rt: &R,
+        keeper: &CommitLog<N, L, S>,
+        room: &HallRoom<K>,
+    ) -> Option<LogPosition<N, L>>
+        ensures { IfSome result (λ all. ∥ AreLogged K.configuration room.now.turns.front.seen.log
+            (of_client N.client_of (index_of Author) all) ∥₁) }
+    {
+        let records = self.records_of(room)?;
+        keeper.whole_position(rt, &records.own)
     }
 }
