@@ -42,7 +42,7 @@ none_of (item ∷ items) none = absurd (omega (arith, none))
 pub one_list : {A : Type 0} (xs ys : List A) → IsPrefix xs ys → IsPrefix ys xs → xs ≡ ys
 one_list xs ys p q = prefix_whole xs ys p (let more : length ys ≤ length xs = omega (arith, sym (ap length q.1) ∙ length-append ys q.0) in more)
 
-exchanges_more : (items more : List TurnItem) → exchanges_in (items ++ more) ≡ exchanges_in items ++ exchanges_in more
+pub exchanges_more : (items more : List TurnItem) → exchanges_in (items ++ more) ≡ exchanges_in items ++ exchanges_in more
 exchanges_more [] more = refl
 exchanges_more (Opened known rows ∷ items) more = exchanges_more items more
 exchanges_more (OpenedRoom drafts publications ∷ items) more = exchanges_more items more

@@ -19,8 +19,9 @@ use Rattle.mds_desk.specs.Desk.{DeskState, TakesRun}
 use Rattle.mds_desk.proofs.Running.{begins}
 use Rattle.server_state.specs.Response.{Says}
 use Rattle.server_state.specs.Turn.{IsDeskAt, TakesToldRun}
-use Rattle.server_durable.specs.Many.{AreRecorded, AreRecordsOf, AreRefusedBehind, Continues, IsAnsweredInPart, IsHalted, IsRecordedRun}
-use Rattle.server_durable.specs.Many.{IsRefusedWhole, ManyAreAnswered, SaysAll, accepted, exchanges, reports_of}
+use Rattle.server_durable.specs.Many.{AreRecorded, AreRecordsOf, AreRefusedBehind, Continues, IsHalted}
+use Rattle.server_durable.specs.Many.{IsRefusedWhole, SaysAll, accepted, exchanges, reports_of}
+use Rattle.server_durable.specs.ManyAnswers.{IsAnsweredInPart, IsListedRun, IsRecordedRun, ManyAreAnswered}
 use Rattle.server_durable.specs.CacheControl.{Waits}
 use Rattle.server_durable.specs.declared.many.Halt.{Halt}
 use Rattle.server_durable.specs.declared.many.Halt.TheVariants.{Unheld, NotTold}
@@ -80,7 +81,7 @@ both_recorded : (configuration : Configuration) (first then : List Exchange) (st
 both_recorded configuration [] then stamp all more = more
 both_recorded configuration (e ∷ first) then stamp all more = (all.0, both_recorded configuration first then stamp all.1 more)
 
-exchanges_on : (requests more : List Request) (replies others : List Reply) → length replies ≡ length requests
+pub exchanges_on : (requests more : List Request) (replies others : List Reply) → length replies ≡ length requests
     → exchanges (requests ++ more) (replies ++ others) ≡ exchanges requests replies ++ exchanges more others
 exchanges_on [] more [] others same = refl
 exchanges_on [] more (reply ∷ replies) others same = absurd cc
@@ -133,6 +134,12 @@ pub record Reached (configuration : Configuration) (place : ℕ) (requests : Lis
   pub run : TakesRun start requests replies now
   pub recorded : AreRecorded configuration (exchanges requests replies) stamp
 
+-- it has as many replies as requests
+pub as_many_reached : (configuration : Configuration) (place : ℕ) (requests : List Request) (replies : List Reply) (stamp : List (List ℕ)) (now : DeskState)
+    → place < length configuration.operators → Reached configuration place requests replies stamp now → length replies ≡ length requests
+as_many_reached configuration place requests replies stamp now within reached =
+    as_many reached.start now requests replies (its_place configuration place reached.start within reached.is_its) reached.run
+
 pub reached_none : (configuration : Configuration) (place : ℕ) (stamp : List (List ℕ)) (d : DeskState) → IsDeskAt configuration place d
     → Reached configuration place [] [] stamp d
 reached_none configuration place stamp d its = record { start = d; is_its = its; run = begins d; recorded = tt }
@@ -144,7 +151,7 @@ pub reached_more : (configuration : Configuration) (place : ℕ) (requests : Lis
     → Reached configuration place (requests ++ more) (replies ++ own) later next
 reached_more configuration place requests replies stamp now [] next own later within some reached further = absurd (omega (arith, some))
 reached_more configuration place requests replies stamp now (request ∷ more) next own later within some reached further =
-    let same = as_many reached.start now requests replies (its_place configuration place reached.start within reached.is_its) reached.run in
+    let same = as_many_reached configuration place requests replies stamp now within reached in
     record {
       start = reached.start;
       is_its = reached.is_its;
@@ -156,17 +163,20 @@ reached_more configuration place requests replies stamp now (request ∷ more) n
     }
 
 run_of : (configuration : Configuration) (place : ℕ) (requests : List Request) (replies : List Reply) (stamp : List (List ℕ)) (now : DeskState)
-    → Reached configuration place requests replies stamp now → IsRecordedRun configuration place requests replies stamp
-run_of configuration place requests replies stamp now reached =
+    → Reached configuration place requests replies stamp now → IsListedRun configuration place requests replies now stamp
+    → IsRecordedRun configuration place requests replies stamp
+run_of configuration place requests replies stamp now reached listed =
     record {
       run = record { before = reached.start; after = now; is_its = reached.is_its; run = reached.run };
       recorded = reached.recorded;
+      listed = listed;
     }
 
 -- all are answered
 pub all_answered : (configuration : Configuration) (place : ℕ) (requests : List Request) (replies : List Reply) (stamp : List (List ℕ)) (now : DeskState)
-    → Reached configuration place requests replies stamp now → IsAnsweredInPart configuration place requests replies stamp
-all_answered configuration place requests replies stamp now reached =
+    → Reached configuration place requests replies stamp now → IsListedRun configuration place requests replies now stamp
+    → IsAnsweredInPart configuration place requests replies stamp
+all_answered configuration place requests replies stamp now reached listed =
     record {
       asked = requests;
       unasked = [];
@@ -174,15 +184,15 @@ all_answered configuration place requests replies stamp now reached =
       own = replies;
       others = [];
       told = sym (append-nil replies);
-      run = run_of configuration place requests replies stamp now reached;
+      run = run_of configuration place requests replies stamp now reached listed;
       rest = inl (refl, refl);
     }
 
 -- a prefix is answered, and the others are refused
 pub some_answered : (configuration : Configuration) (place : ℕ) (requests rest : List Request) (replies others all : List Reply) (stamp : List (List ℕ)) (now : DeskState)
-    → Reached configuration place requests replies stamp now → all ≡ replies ++ others → AreRefusedBehind rest others
-    → IsAnsweredInPart configuration place (requests ++ rest) all stamp
-some_answered configuration place requests rest replies others all stamp now reached is refuses =
+    → Reached configuration place requests replies stamp now → IsListedRun configuration place requests replies now stamp
+    → all ≡ replies ++ others → AreRefusedBehind rest others → IsAnsweredInPart configuration place (requests ++ rest) all stamp
+some_answered configuration place requests rest replies others all stamp now reached listed is refuses =
     record {
       asked = requests;
       unasked = rest;
@@ -190,20 +200,21 @@ some_answered configuration place requests rest replies others all stamp now rea
       own = replies;
       others = others;
       told = is;
-      run = run_of configuration place requests replies stamp now reached;
+      run = run_of configuration place requests replies stamp now reached listed;
       rest = inr refuses;
     }
 
 -- the same of a result that says so
 pub some_answered_of : {V E : Type 0} (replies : V → List Reply) (stamp : V → List (List ℕ)) (configuration : Configuration) (place : ℕ) (requests rest whole : List Request)
     (so_far : List Reply) (texts : List (List ℕ)) (now : DeskState) (result : Result V E) → whole ≡ requests ++ rest → Reached configuration place requests so_far texts now
+    → IsListedRun configuration place requests so_far now texts
     → IfOk result (λ all. (others : List Reply) × (replies all ≡ so_far ++ others) × AreRefusedBehind rest others × (stamp all ≡ texts))
     → IfOk result (λ all. IsAnsweredInPart configuration place whole (replies all) (stamp all))
-some_answered_of replies stamp configuration place requests rest whole so_far texts now result is reached refuses =
+some_answered_of replies stamp configuration place requests rest whole so_far texts now result is reached listed refuses =
     ok_more result (λ all behind.
     subst (λ (ts : List (List ℕ)). IsAnsweredInPart configuration place whole (replies all) ts) (sym behind.3)
     (subst (λ (rs : List Request). IsAnsweredInPart configuration place rs (replies all) texts) (sym is)
-    (some_answered configuration place requests rest so_far behind.0 (replies all) texts now reached behind.1 behind.2))) refuses
+    (some_answered configuration place requests rest so_far behind.0 (replies all) texts now reached listed behind.1 behind.2))) refuses
 
 -- ---- the response
 

@@ -37,7 +37,7 @@ use Rattle.server_routes.specs.declared.state.FleetQuestion.TheVariants.{Own, Of
 use Rattle.server_routes.specs.declared.state.StateCall.TheVariants.{Call as OfProtocol, Reports, AuthorAsks, OperatorAsks, AsksFleet}
 use Rattle.server_durable.specs.DurableResponse.{Answers, IsAnswered, IsAnsweredAs, IsAnsweredBy, IsTold}
 use Rattle.server_durable.specs.FleetViews.{IsAskedWithin, IsFleetReply}
-use Rattle.server_durable.specs.Many.{ManyAreAnswered}
+use Rattle.server_durable.specs.ManyAnswers.{ManyAreAnswered}
 use Rattle.server_durable.specs.People.{SaysTold, TellsAuthor, TellsOperator}
 use Rattle.server_durable.specs.CacheControl.{Waits}
 use Rattle.server_durable.proofs.Responses.{ok_more, waits_more}

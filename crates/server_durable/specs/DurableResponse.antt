@@ -29,7 +29,7 @@ use Rattle.server_durable.specs.Owners.{client_in}
 use Rattle.server_durable.specs.RoomLogged.{IsLoggedRoomTurn}
 use Rattle.server_routes.specs.App.{app_of}
 use Rattle.server_durable.specs.FleetViews.{IsEachCompliance, IsOwnView, IsViewOf}
-use Rattle.server_durable.specs.Many.{ManyAreAnswered}
+use Rattle.server_durable.specs.ManyAnswers.{ManyAreAnswered}
 use Rattle.server_durable.specs.Records.{HasRecord}
 use Rattle.server_durable.specs.People.{SaysTold, TellsAuthor, TellsOperator}
 use Rattle.server_durable.specs.Refusals.{SaysUnheld}

@@ -26,7 +26,8 @@ use Rattle.mds_catalog.specs.Publication.{Publication, is_meant_for, published_p
 use Rattle.server_routes.specs.App.{app_at, app_of}
 use Rattle.server_durable.specs.DurableResponse.{Answers, IsCarriedOut}
 use Rattle.server_durable.specs.FleetViews.{IsOwnView, own_request}
-use Rattle.server_durable.specs.Many.{AreCarriedOutBy, AreRefusedBehind, SaysAll, exchanges}
+use Rattle.server_durable.specs.Many.{AreRefusedBehind, SaysAll, exchanges}
+use Rattle.server_durable.specs.ManyAnswers.{AreCarriedOutBy}
 use Rattle.server_durable.specs.Records.{HasRecord}
 use Rattle.server_durable.specs.People.{operator_told}
 use Rattle.server_durable.specs.Refusals.{SaysUnheld}

@@ -3,6 +3,7 @@ pub mod Records
 pub mod Owners
 pub mod Many
 pub mod Logged
+pub mod ManyAnswers
 pub mod RoomLogged
 pub mod Chunks
 pub mod People

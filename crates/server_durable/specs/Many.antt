@@ -1,4 +1,4 @@
--- Many reports in one body, and the response to them.
+-- Many reports in one body, their records, and the lines that tell the replies.
 use mathlib.Core.List.{IsPrefix}
 use Rattle.std.specs.Prelude.{◌≡◌, ◌==◌, ◌<◌, ◌⊎◌, ℕ, List, [], ◌∷◌, ◌++◌, codes, length, map, filter, Option, Some, None, IfOk, Result, Err}
 use Rattle.std.specs.List.{AllByRecursion, flat_map}
@@ -17,7 +17,7 @@ use Rattle.mds_request.specs.declared.code.Code.TheVariants as code
 use Rattle.mds_request.specs.declared.config.Actor.TheVariants.{Operator}
 use Rattle.mds_request.specs.declared.request.Verb.TheVariants.{Post}
 use Rattle.server_state.specs.Response.{Says, bytes_of}
-use Rattle.server_state.specs.Turn.{DeskRuns, TakesToldRun}
+use Rattle.server_state.specs.Turn.{TakesToldRun}
 use Rattle.mds_desk.specs.Desk.{DeskState}
 use Rattle.mds_catalog.specs.Publication.{Publication}
 use Rattle.server_durable.specs.Records.{HasRecord, IsRecordOf}
@@ -79,12 +79,6 @@ AreRecordsOf configuration requests texts = ⊥
 abbrev pub AreRecorded : Configuration → List Exchange → List (List ℕ) → Type 0
 AreRecorded configuration history stamp = AllByRecursion (λ e. e.reply.status ≡ 200 → HasRecord configuration e.request stamp) history
 
--- A turn for each request, in their order and with nothing between, of the desk of the operator at this place gives the
--- replies. Each that was answered with success has its record among these payloads.
-pub record IsRecordedRun (configuration : Configuration) (place : ℕ) (requests : List Request) (replies : List Reply) (stamp : List (List ℕ)) : Type 0 where
-  pub run : DeskRuns configuration place requests replies
-  pub recorded : AreRecorded configuration (exchanges requests replies) stamp
-
 -- Each of these requests has a turn, after those that the desk took before. Each that was answered with success has its
 -- record among these later payloads, which begin with the known ones.
 pub record Continues (configuration : Configuration) (before : DeskState) (known : List (List ℕ)) (requests : List Request) (after : DeskState) (replies : List Reply) (later : List (List ℕ)) : Type 0 where
@@ -109,23 +103,6 @@ pub record AreRefusedBehind (requests : List Request) (replies : List Reply) : T
   pub why : (halt : Halt) × (refusal_behind halt ≡ Some code)
   pub replies_are : replies ≡ map (λ _. refused code) requests
 
--- A prefix of the requests was answered by a run; those after it, if there are any, aren't carried out.
-pub record IsAnsweredInPart (configuration : Configuration) (place : ℕ) (requests : List Request) (replies : List Reply) (stamp : List (List ℕ)) : Type 0 where
-  pub asked : List Request
-  pub unasked : List Request
-  pub cut : requests ≡ asked ++ unasked
-  pub own : List Reply
-  pub others : List Reply
-  pub told : replies ≡ own ++ others
-  pub run : IsRecordedRun configuration place asked own stamp
-  pub rest : (unasked ≡ [] × others ≡ []) ⊎ AreRefusedBehind unasked others
-
--- the response has such replies
-pub record AreCarriedOutBy (configuration : Configuration) (place : ℕ) (requests : List Request) (stamp : List (List ℕ)) (response : Response (Full (List ℕ))) : Type 0 where
-  pub replies : List Reply
-  pub answered : IsAnsweredInPart configuration place requests replies stamp
-  pub says : SaysAll response replies
-
 -- there are more reports than one body may have, or out of memory for them
 abbrev pub IsRefusedWhole : Request → Code → Type 0
 IsRefusedWhole request c = (c ≡ code.NoMemory) ⊎ ((c ≡ code.TooLarge) × (MOST_REPORTS < length (reports_of request)))
@@ -139,8 +116,3 @@ IsUnasked request response = SaysUnheld response ⊎ ((c : Code) × IsRefusedWho
 abbrev pub IsHalted : {V : Type 0} → (V → Option (Response (Full (List ℕ)))) → Halt → Result V NoResponse → Type 0
 IsHalted reply (Unheld why) result = IfOk result (λ s. Waits (SaysUnheldFor why) (reply s))
 IsHalted reply (NotTold fault) result = result ≡ Err (Untold fault)
-
--- the response to the operator at this place for the reports of one body
-abbrev pub ManyAreAnswered : Configuration → ℕ → Request → List (List ℕ) → Response (Full (List ℕ)) → Type 0
-ManyAreAnswered configuration place request stamp response =
-    IsUnasked request response ⊎ AreCarriedOutBy configuration place (reports_of request) stamp response

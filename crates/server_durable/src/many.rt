@@ -10,8 +10,8 @@ ghost use Rattle.server_admission.specs.Actor.{index_of};
 ghost use Rattle.server_state.specs.WholeRequest.{request_heard};
 ghost use Rattle.mds_request.specs.declared.config.Actor.TheVariants.{Operator};
 ghost use Rattle.server_durable.specs.Logged.{OwnsTurns, ShowsTurns};
-ghost use Rattle.server_durable.specs.Many.{AreAskedBy, AreRecordsOf, AreRefusedBehind, Continues, IsAnsweredInPart, IsHalted, ManyAreAnswered, SaysAll, refusal_behind};
-ghost use Rattle.journal_commit.specs.Clients.{AreOf};
+ghost use Rattle.server_durable.specs.Many.{AreAskedBy, AreRecordsOf, AreRefusedBehind, Continues, IsHalted, SaysAll, refusal_behind};
+ghost use Rattle.server_durable.specs.ManyAnswers.{EndsInRun, IsAnsweredInPart, ManyAreAnswered};
 ghost use Rattle.server_durable.specs.Records.{IsRecordable, record_by};
 ghost use Rattle.server_durable.specs.CacheControl.{Waits};
 
@@ -243,11 +243,12 @@ impl<K: HallName, N: LogName, L: Log, S: Space> DurableHall<K, N, L, S> {
     }
 
     /// A turn of this desk for each of these requests, whose records have reservations, and their records. The log
-    /// position that is returned has all of the known one.
+    /// position that is returned has all of the known one, and the run is the last item of the desk's list.
     ///
     /// # Errors
     ///
-    /// Out of memory before the first turn, and none is carried out; or the log failed.
+    /// Out of memory before the first turn, and none is carried out; or the log failed, as it does where the run isn't
+    /// in the desk's list.
     fn carry_out_reserved<R: Wait, E: Evaluator<Catalogue>>(
         &self,
         context: &Context<'_, R, E>,
@@ -269,6 +270,8 @@ impl<K: HallName, N: LogName, L: Log, S: Space> DurableHall<K, N, L, S> {
         ensures front { IfOk result (λ replies. IsPrefix records.new.own.texts replies.stamp) }
         ensures shows { IfOk result (λ replies. ∥ ShowsTurns K.configuration N.client_of
             (index_of (Operator desk.old.place)) desk.new.turns.front.seen.log replies.stamp ∥₁) }
+        ensures listed { IfOk result (λ replies. EndsInRun desk.old.turns.front.seen.log (map request_of requests.now)
+            replies.answers.items desk.new.is_lost desk.new.turns.front.seen.log) }
     {
         let Ok(mut accepted) = Vec::with_capacity(context.alloc, requests.len()) else {
             self.keeper.release_all(context.rt, places);
@@ -283,6 +286,9 @@ impl<K: HallName, N: LogName, L: Log, S: Space> DurableHall<K, N, L, S> {
         push_flags(&mut accepted, &answers);
         let keeper = &*self.keeper;
         let stamp = records.settle_run(context.rt, keeper, desk, known, places, &accepted)?;
+        if desk.turns().is_none() {
+            return Err(self.halt(context.rt));
+        }
         Ok(Replies { answers, stamp })
     }
 
@@ -316,6 +322,8 @@ impl<K: HallName, N: LogName, L: Log, S: Space> DurableHall<K, N, L, S> {
         ensures front { IfOk result (λ replies. IsPrefix records.new.own.texts replies.stamp) }
         ensures shows { IfOk result (λ replies. ∥ ShowsTurns K.configuration N.client_of
             (index_of (Operator desk.old.place)) desk.new.turns.front.seen.log replies.stamp ∥₁) }
+        ensures listed { IfOk result (λ replies. EndsInRun desk.old.turns.front.seen.log (map request_of requests.now)
+            replies.answers.items desk.new.is_lost desk.new.turns.front.seen.log) }
     {
         let note = self.hall.note(context.rt);
         let answers = desk.answer_all(requests, note.as_ref(), &mut OpenGate, context.evaluator)?;
@@ -330,7 +338,8 @@ impl<K: HallName, N: LogName, L: Log, S: Space> DurableHall<K, N, L, S> {
     }
 
     /// A turn of this desk, which is that of the operator at this place, for each request of a chunk, and their
-    /// records. The operator's records up to the log position that is returned are those of all turns of the desk.
+    /// records. The operator's records up to the log position that is returned are those of all turns of the desk, the
+    /// last of which are these.
     ///
     /// # Errors
     ///
@@ -357,6 +366,8 @@ impl<K: HallName, N: LogName, L: Log, S: Space> DurableHall<K, N, L, S> {
         ensures front { IfOk result (λ replies. IsPrefix records.new.own.texts replies.stamp) }
         ensures shows { IfOk result (λ replies. ∥ ShowsTurns K.configuration N.client_of
             (index_of (Operator desk.old.place)) desk.new.turns.front.seen.log replies.stamp ∥₁) }
+        ensures listed { IfOk result (λ replies. EndsInRun desk.old.turns.front.seen.log (map request_of requests.now)
+            replies.answers.items desk.new.is_lost desk.new.turns.front.seen.log) }
     {
         if !records.has_all(desk) {
             return Err(self.halt(context.rt));

@@ -57,3 +57,9 @@ returns-clause-front g c =
     let mine = c.args.records.now in
     subst (λ (texts : List (List ℕ)). IsPrefix texts c.again-stamp.result) (sym (ap (λ (own : Own). own.texts) c.learn.ensures.own))
     (subst (IsPrefix mine.own.texts) (sym c.again-stamp.ensures) c.requires.front)
+
+pub returns-clause-listed : goal.returns-clause-listed
+returns-clause-listed g c =
+    let learnt : c.learn.result ≡ true = search rules in
+    let kept = c.learn.ensures.learnt learnt in
+    (kept, c.in_ok-answers.ensures.listed kept)

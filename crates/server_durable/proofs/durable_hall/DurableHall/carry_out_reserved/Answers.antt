@@ -1,5 +1,5 @@
 use mathlib.Core.List.{IsPrefix}
-use Rattle.std.proofs.Common.{◌≡◌, ◌==◌, ◌<◌, ℕ, length, map, ap, subst, ◌∙◌, arith}
+use Rattle.std.proofs.Common.{◌≡◌, ◌==◌, ◌<◌, ℕ, false, length, map, ap, subst, ◌∙◌, arith, rules}
 use Rattle.std.proofs.lemmas.List.{length-map}
 use Rattle.mds_request.specs.Configuration.{Configuration}
 use Rattle.mds_request.specs.Request.{request_of}
@@ -77,3 +77,8 @@ pub returns-clause-front : goal.returns-clause-front
 returns-clause-front g c =
     let texts = c.settle_run.new.self.own.texts in
     subst (IsPrefix texts) c.in_ok-stamp.ensures.own (prefix_self texts)
+
+pub returns-clause-listed : goal.returns-clause-listed
+returns-clause-listed g c =
+    let kept : c.answer_all-run.new.self.is_lost ≡ false = search rules in
+    (kept, c.in-Ok-run.ensures.listed kept)
