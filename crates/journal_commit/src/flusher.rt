@@ -61,6 +61,44 @@ impl<K: LogName, L: Log> Model for FlushedLog<K, L> {
     ghost invariant = { λ w. EndsWith L.may_be L.is_synced w.log w.taken };
 }
 
+/// A log behind its last append. It is synced, and the list that it may be ends with the payloads that contracts see.
+#[derive(Drop)]
+pub struct SyncedLog<K: LogName, L: Log> {
+    log: L,
+    position: LogPosition<K, L>,
+}
+
+impl<K: LogName, L: Log> Model for SyncedLog<K, L> {
+    ghost use Rattle.std.specs.Prelude.{ℕ, List};
+    ghost use Rattle.journal_commit.specs.Codes.{coded_texts};
+    ghost use Rattle.journal_commit.specs.Durable.{EndsWith};
+
+    ghost Value = { List (List ℕ) };
+
+    ghost coded = { coded_texts };
+
+    ghost view = { λ ended. ended.position };
+
+    ghost invariant = { λ ended. L.is_synced ended.log × EndsWith L.may_be L.is_synced ended.log ended.position };
+}
+
+impl<K: LogName, L: Log> SyncedLog<K, L> {
+    /// The log position of all that was appended since the log was opened.
+    pub fn position(&self) -> LogPosition<K, L>
+        ensures { result ≡ self.now }
+    {
+        self.position.again()
+    }
+
+    /// The log itself.
+    pub fn into_log(self) -> L
+        ensures synced { L.is_synced result }
+        ensures ends { EndsWith L.may_be L.is_synced result self }
+    {
+        self.log
+    }
+}
+
 /// The flusher, for a thread of its own.
 #[derive(Drop)]
 pub struct Flusher<K: LogName, L: Log> {
@@ -102,13 +140,22 @@ impl<K: LogName, L: Log> FlushedLog<K, L> {
         self.taken.again()
     }
 
-    /// Syncs the log and returns it.
-    fn into_log(self) -> Result<L, SyncFault>
-        ensures { IfOk result L.is_synced }
+    /// Syncs the log, and returns it with the log position of the payloads.
+    fn into_log(self) -> Result<SyncedLog<K, L>, SyncFault>
+        ensures { IfOk result (λ ended. ended ≡ self) }
     {
-        let mut log = self.log;
+        let FlushedLog {
+            log,
+            position: _,
+            taken,
+            synced: _,
+        } = self;
+        let mut log = log;
         log.sync()?;
-        Ok(log)
+        Ok(SyncedLog {
+            log,
+            position: taken,
+        })
     }
 }
 
@@ -156,7 +203,7 @@ impl<K: LogName, L: Log> Flusher<K, L> {
     }
 
     /// Writes and syncs for all that wait, until the commit log is stopped and nothing waits: then it returns the log,
-    /// synced.
+    /// synced, with the log position of all that it wrote.
     ///
     /// # Errors
     ///
@@ -165,9 +212,7 @@ impl<K: LogName, L: Log> Flusher<K, L> {
         self,
         rt: &R,
         keeper: &CommitLog<K, L, S>,
-    ) -> Result<L, FlushFault>
-        ensures { IfOk result L.is_synced }
-    {
+    ) -> Result<SyncedLog<K, L>, FlushFault> {
         let mut flusher = self;
         for _ in rt.forever() {
             match flusher.flush_next(rt, keeper) {
@@ -183,11 +228,13 @@ impl<K: LogName, L: Log> Flusher<K, L> {
     }
 
     /// Returns the log, synced, once nothing waits.
-    fn end<R: Wait, S: Space>(self, rt: &R, keeper: &CommitLog<K, L, S>) -> Result<L, FlushFault>
-        ensures { IfOk result L.is_synced }
-    {
+    fn end<R: Wait, S: Space>(
+        self,
+        rt: &R,
+        keeper: &CommitLog<K, L, S>,
+    ) -> Result<SyncedLog<K, L>, FlushFault> {
         match self.written.into_log() {
-            Ok(log) => Ok(log),
+            Ok(ended) => Ok(ended),
             Err(fault) => {
                 keeper.fail(rt);
                 Err(fault.into())

@@ -24,7 +24,7 @@ pub use decisions::{
     ResponseTiming, Round, Usage, may_reserve, may_respond, next_round,
 };
 pub use failure::LogFailure;
-pub use flusher::{FlushFault, Flusher};
+pub use flusher::{FlushFault, Flusher, SyncedLog};
 pub use history::{
     CommitLedger, LogName, LogPosition, SharedLogName, SyncedPrefix, UnnamedHistory,
 };

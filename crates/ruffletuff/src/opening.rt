@@ -350,5 +350,6 @@ where
         hall.finish(rt);
         return Err(ExitCause::Folder(FolderFault::Unusable));
     };
-    persist_and_serve::<K, Brand, L, S, R>(rt, hall, history, log, space, stage)
+    let _log = persist_and_serve::<K, Brand, L, S, R>(rt, hall, history, log, space, stage)?;
+    Ok(())
 }

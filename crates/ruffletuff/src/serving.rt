@@ -1,5 +1,6 @@
 //! Serves an open city: one thread writes its journal, others answer.
-ghost use Rattle.std.specs.Prelude.{◌≡◌, ℕ, List, IfOk, Ok, map};
+ghost use Rattle.std.specs.Prelude.{◌≡◌, ℕ, List, IfErr, IfOk, IfSome, OnOk, Err, Ok, Some, is_ok, map};
+ghost use Rattle.ruffletuff.specs.Ended.{LeavesAll};
 ghost use Rattle.ruffletuff.specs.Ends.{outcome_of};
 ghost use Rattle.ruffletuff.specs.Resumed.{AreResumed};
 ghost use Rattle.server_durable.specs.Owners.{client_in};
@@ -11,7 +12,8 @@ use crate::host::{SendLog, SendSpace, ServerHost};
 use crate::listening::BoundListener;
 use cli_journal::{ExitCause, operator_names_in};
 use journal_commit::{
-    CommitLog, FlushFault, Flusher, LogName, SharedLogName, Space, UnnamedHistory, open,
+    CommitLog, FlushFault, Flusher, LogName, LogPosition, SharedLogName, Space, SyncedLog,
+    UnnamedHistory, open,
 };
 use journal_file::Log;
 use mds_parallel::Chunked;
@@ -54,15 +56,12 @@ struct FlusherJob<'a, N: LogName, L: Log, S: Space, R> {
 }
 
 impl<N: LogName, L: Log, S: Space, R: Wait + Drop> ThreadJob for FlusherJob<'_, N, L, S, R> {
-    type Outcome = Result<(), FlushFault>;
+    type Outcome = Result<SyncedLog<N, L>, FlushFault>;
 
-    fn run(self) -> Result<(), FlushFault> {
+    fn run(self) -> Result<SyncedLog<N, L>, FlushFault> {
         let flushed = self.flusher.run(&self.rt, self.keeper);
         self.closing.close();
-        match flushed {
-            Ok(_) => Ok(()),
-            Err(fault) => Err(fault),
-        }
+        flushed
     }
 }
 
@@ -76,15 +75,29 @@ struct SiteServer<'a, K: HallName, N: LogName, L: Log, S: Space, R, P> {
     closing: &'a ShutdownHandle,
 }
 
-/// Answers until the server is to end. Then it stops the commit log, so that the journal is written to its end.
+/// Ends the city of a site that was served. Gives the log position of all that was appended, whose payloads are, client
+/// by client, the records of all turns; it always is given.
+fn end_city<K: HallName, N: LogName, L: Log, S: Space, R: ServerHost, P: Drop>(
+    rt: &R,
+    site: Site<'_, K, N, L, S, R, Chunked<R>, P>,
+) -> Option<LogPosition<N, L>>
+    ensures { LeavesAll K.configuration site.state.city.hall.room_opening.front.seen.log
+        (map (λ desk. desk.opening.front.seen.log) site.state.city.hall.desks.items) result }
+{
+    let state = site.state;
+    state.city.finish(rt)
+}
+
+/// Answers until the server is to end. Then it stops the commit log, so that the journal is written to its end, and ends
+/// the city, as `end_city`; `None` where a connection still holds it.
 ///
 /// # Errors
 ///
-/// The server couldn't be started.
+/// The server couldn't be started, or the polling of events failed.
 fn serve_to_the_end<'a, K, N, L, S, R, P>(
     rt: &R,
     serving: SiteServer<'a, K, N, L, S, R, P>,
-) -> io::Result<ServeOutcome<Site<'a, K, N, L, S, R, Chunked<R>, P>>>
+) -> io::Result<Option<LogPosition<N, L>>>
 where
     K: SharedHallName,
     N: SharedLogName,
@@ -92,6 +105,8 @@ where
     S: SendSpace,
     R: ServerHost,
     P: PastJournals + Send + Sync,
+    ensures { IfOk result (LeavesAll K.configuration serving.site.state.city.hall.room_opening.front.seen.log
+        (map (λ desk. desk.opening.front.seen.log) serving.site.state.city.hall.desks.items)) }
 {
     let SiteServer {
         listening,
@@ -104,11 +119,19 @@ where
     let mut runtime = runtime;
     let ended = serve_by(rt, &mut runtime, listener, site, queues, closing);
     keeper.stop(rt);
-    ended
+    let ServeOutcome { answers, outcome } = ended?;
+    let Some(site) = answers else {
+        outcome?;
+        return Ok(None);
+    };
+    let all = end_city(rt, site);
+    outcome?;
+    Ok(all)
 }
 
 /// Persists what a hall accepts in a log that continues this history, and serves the hall, whose room and desks are
-/// those that were started from the log. N names the history.
+/// those that were started from the log. N names the history. Gives the log that it leaves, synced, whose payloads since
+/// then are, client by client, the records of all turns; `None` where a connection outlasted the server.
 ///
 /// # Errors
 ///
@@ -121,7 +144,7 @@ pub fn persist_and_serve<K, N, L, S, R>(
     log: L,
     space: S,
     stage: ServingParts<'_>,
-) -> Result<(), ExitCause>
+) -> Result<Option<SyncedLog<N, L>>, ExitCause>
 where
     K: SharedHallName,
     N: SharedLogName,
@@ -134,6 +157,8 @@ where
         hall.room_opening.front.seen.log (map (λ desk. desk.opening.front.seen.log) hall.desks.items) }
     requires space { S.aside space ≡ 0 }
     requires clients { N.client_of ≡ client_in K.configuration }
+    ensures { IfOk result (LeavesAll K.configuration hall.room_opening.front.seen.log
+        (map (λ desk. desk.opening.front.seen.log) hall.desks.items)) }
 {
     let alloc = rt.alloc();
     count_vehicles(rt, &hall, stage.board.counters)?;
@@ -167,13 +192,15 @@ fn serve_durable_hall<'a, K, N, L, S, R>(
     keeper: &'a CommitLog<N, L, S>,
     flusher: Flusher<N, L>,
     stage: ServingParts<'a>,
-) -> Result<(), ExitCause>
+) -> Result<Option<SyncedLog<N, L>>, ExitCause>
 where
     K: SharedHallName,
     N: SharedLogName,
     L: SendLog,
     S: SendSpace,
     R: ServerHost,
+    ensures { IfOk result (LeavesAll K.configuration city.hall.room_opening.front.seen.log
+        (map (λ desk. desk.opening.front.seen.log) city.hall.desks.items)) }
 {
     let board = stage.board;
     let journals = CityJournals::new(*rt, rt.alloc(), stage.folder, stage.archive)?;
@@ -198,31 +225,54 @@ where
         queues: stage.queues,
         closing: board.closing,
     };
-    let (flushed, ended) = run_concurrently(rt, flushing, move || serve_to_the_end(rt, serving));
-    finish(rt, flushed, ended)
+    serve_site(rt, flushing, serving)
 }
 
-/// Closes the city of a server that has ended, and gives how that went.
+/// Serves a site until it is to end, while another thread writes its journal.
 ///
 /// # Errors
 ///
 /// As `outcome_of`.
-fn finish<K: HallName, N: LogName, L: Log, S: Space, R: ServerHost, P: Drop>(
+fn serve_site<'a, K, N, L, S, R>(
     rt: &R,
-    flushed: Result<(), FlushFault>,
-    ended: io::Result<ServeOutcome<Site<'_, K, N, L, S, R, Chunked<R>, P>>>,
-) -> Result<(), ExitCause> {
-    let is_served = match ended {
-        Ok(ServeOutcome { answers, outcome }) => {
-            if let Some(site) = answers {
-                let state = site.state;
-                let _all = state.city.finish(rt);
-            }
-            outcome.is_ok()
-        }
-        Err(_) => false,
+    flushing: FlusherJob<'a, N, L, S, R>,
+    serving: SiteServer<'a, K, N, L, S, R, CityJournals<R>>,
+) -> Result<Option<SyncedLog<N, L>>, ExitCause>
+where
+    K: SharedHallName,
+    N: SharedLogName,
+    L: SendLog,
+    S: SendSpace,
+    R: ServerHost,
+    ensures { IfOk result (LeavesAll K.configuration serving.site.state.city.hall.room_opening.front.seen.log
+        (map (λ desk. desk.opening.front.seen.log) serving.site.state.city.hall.desks.items)) }
+{
+    let (flushed, ended) = run_concurrently(rt, flushing, move || serve_to_the_end(rt, serving));
+    ended_log(flushed, ended)
+}
+
+/// The log that a server leaves which ended so, where it is that of its ended city.
+///
+/// # Errors
+///
+/// As `outcome_of`.
+fn ended_log<N: LogName, L: Log>(
+    flushed: Result<SyncedLog<N, L>, FlushFault>,
+    ended: io::Result<Option<LogPosition<N, L>>>,
+) -> Result<Option<SyncedLog<N, L>>, ExitCause>
+    ensures whole { IfOk result (λ log. IfSome log (λ texts. ended ≡ Ok (Some texts))) }
+    ensures ended { OnOk result (outcome_of (is_ok flushed) (is_ok ended) ≡ Ok tt) }
+    ensures fault { IfErr result (λ cause. outcome_of (is_ok flushed) (is_ok ended) ≡ Err cause) }
+{
+    outcome_of(flushed.is_ok(), ended.is_ok())?;
+    let (Ok(log), Ok(Some(all))) = (flushed, ended) else {
+        return Ok(None);
     };
-    outcome_of(flushed.is_ok(), is_served)
+    if log.position().is_of(&all) {
+        Ok(Some(log))
+    } else {
+        Ok(None)
+    }
 }
 
 /// How a server ended, by whether its journal was written to the end and whether it could be served.

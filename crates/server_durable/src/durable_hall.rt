@@ -100,6 +100,7 @@ impl<K: HallName, N: LogName, L: Log, S: Space> DurableHall<K, N, L, S> {
         requires nothing { nothing ≡ [] }
         ensures configured { IfOk result (λ city. configuration city.hall.config.value ≡ configuration hall.config.value) }
         ensures badged { IfOk result (λ city. city.badges ≡ badges) }
+        ensures hall { IfOk result (λ city. city.hall ≡ hall) }
     {
         let config = hall.configuration()?;
         let operators = lock_each(alloc, &*config, &nothing)?;

@@ -1,4 +1,5 @@
 //! Serves a listener by any service, until so many connections are over or the server is to end.
+ghost use Rattle.std.specs.Prelude.{◌≡◌, IfOk, IfSome};
 
 use crate::accept::AcceptOrPause;
 use crate::queues::Queues;
@@ -78,7 +79,9 @@ fn open_server<A: Drop, R: ConnectionRuntime>(
     runtime: &Runtime,
     answers: A,
     queues: Queues,
-) -> io::Result<ServerParts<A, R>> {
+) -> io::Result<ServerParts<A, R>>
+    ensures { IfOk result (λ parts. parts.context.value.answers ≡ answers) }
+{
     let HttpParts {
         timers,
         pauses,
@@ -109,7 +112,7 @@ fn open_server<A: Drop, R: ConnectionRuntime>(
 /// A server that has ended.
 #[derive(Drop)]
 pub struct ServeOutcome<A> {
-    /// The service; none, where something still holds it.
+    /// The service by which it was served; none, where something still holds it.
     pub answers: Option<A>,
     /// Whether it ended in order, or waiting for events failed.
     pub outcome: io::Result<()>,
@@ -134,6 +137,7 @@ where
     A::Reply: Send,
     R: ConnectionRuntime,
     requires ready { A.may_answer }
+    ensures served { IfOk result (λ ended. IfSome ended.answers (λ service. service ≡ answers)) }
 {
     let ServerParts {
         http,
@@ -171,6 +175,7 @@ where
     A::Reply: Send,
     R: ConnectionRuntime,
     requires ready { A.may_answer }
+    ensures served { IfOk result (λ ended. IfSome ended.answers (λ service. service ≡ answers)) }
 {
     let ServerParts {
         http,

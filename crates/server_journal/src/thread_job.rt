@@ -20,6 +20,7 @@ pub fn run_concurrently<
     F: FnOnce() -> B,
 >(rt: &R, errand: E, meanwhile: F) -> (A, B)
     requires { F.pre meanwhile }
+    ensures { F.post meanwhile result.1 }
 {
     join(rt, move || -> A { errand.run() }, meanwhile)
 }

@@ -175,7 +175,7 @@ where
             told
         },
     );
-    Ok((log, told?))
+    Ok((log.map(|ended| ended.into_log()), told?))
 }
 
 /// Empty storage, on which so many calls succeed. Two are for opening a journal, and one for beginning to serve.

@@ -1,5 +1,5 @@
 use denote.Param.Send.{param_send}
-use Rattle.ruffletuff.proofs.serving.fn.serve_durable_hall.run_concurrently.Goals as goal
+use Rattle.ruffletuff.proofs.serving.fn.serve_site.run_concurrently.Goals as goal
 
 pub serve_to_the_end-requires-send-K : goal.serve_to_the_end-requires-send-K
 serve_to_the_end-requires-send-K g c κs within = param_send _ _ c.requires.1.1.1.1.1.0
