@@ -265,7 +265,10 @@ fn ended_log<N: LogName, L: Log>(
     ensures fault { IfErr result (λ cause. outcome_of (is_ok flushed) (is_ok ended) ≡ Err cause) }
 {
     outcome_of(flushed.is_ok(), ended.is_ok())?;
-    let (Ok(log), Ok(Some(all))) = (flushed, ended) else {
+    let (Ok(log), Ok(all)) = (flushed, ended) else {
+        return Ok(None);
+    };
+    let Some(all) = all else {
         return Ok(None);
     };
     if log.position().is_of(&all) {
