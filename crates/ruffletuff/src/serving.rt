@@ -81,8 +81,8 @@ fn end_city<K: HallName, N: LogName, L: Log, S: Space, R: ServerHost, P: Drop>(
     rt: &R,
     site: Site<'_, K, N, L, S, R, Chunked<R>, P>,
 ) -> Option<LogPosition<N, L>>
-    ensures { LeavesAll K.configuration site.state.city.hall.room_opening.front.seen.log
-        (map (λ desk. desk.opening.front.seen.log) site.state.city.hall.desks.items) result }
+    ensures { LeavesAll K.configuration site.entry.state.city.hall.room_opening.front.seen.log
+        (map (λ desk. desk.opening.front.seen.log) site.entry.state.city.hall.desks.items) result }
 {
     let state = site.state;
     state.city.finish(rt)
@@ -105,8 +105,8 @@ where
     S: SendSpace,
     R: ServerHost,
     P: PastJournals + Send + Sync,
-    ensures { IfOk result (LeavesAll K.configuration serving.site.state.city.hall.room_opening.front.seen.log
-        (map (λ desk. desk.opening.front.seen.log) serving.site.state.city.hall.desks.items)) }
+    ensures { IfOk result (LeavesAll K.configuration serving.entry.site.state.city.hall.room_opening.front.seen.log
+        (map (λ desk. desk.opening.front.seen.log) serving.entry.site.state.city.hall.desks.items)) }
 {
     let SiteServer {
         listening,
@@ -244,8 +244,8 @@ where
     L: SendLog,
     S: SendSpace,
     R: ServerHost,
-    ensures { IfOk result (LeavesAll K.configuration serving.site.state.city.hall.room_opening.front.seen.log
-        (map (λ desk. desk.opening.front.seen.log) serving.site.state.city.hall.desks.items)) }
+    ensures { IfOk result (LeavesAll K.configuration serving.entry.site.state.city.hall.room_opening.front.seen.log
+        (map (λ desk. desk.opening.front.seen.log) serving.entry.site.state.city.hall.desks.items)) }
 {
     let (flushed, ended) = run_concurrently(rt, flushing, move || serve_to_the_end(rt, serving));
     ended_log(flushed, ended)
