@@ -7,13 +7,14 @@ A small journal is packed, put behind a byte order mark, shifted, zeroed, given 
 another city's; then so many times (200) by chance, from a fixed seed. Each such file is either refused with status 5, and stays as
 it is, or served: then with all records that stand whole before the fault, and the rest, byte for byte, in a new journal.cut. A city
 is never begun anew over a file with a record of ours, but where that is the beginning of a first group. Then a second program while
-the first one serves, with the lock removed and behind a thinning; links in the folder, which aren't followed; the modes of what is
-made, whatever the umask; and what check says of each end of a journal. Takes about a minute. Prints what differs, and last
-'N passed, M failed'; ends with 1 where one failed.
+the first one serves, with the lock removed and behind a thinning; a journal that loses its name to a longer one before it is locked
+(wants a compiler of C, packages.py); links in the folder, which aren't followed; the modes of what is made, whatever the umask; and what
+check says of each end of a journal. Takes about a minute. Prints what differs, and last 'N passed, M failed'; ends with 1 where one failed.
 """
 
 import argparse
 import contextlib
+import fcntl
 import functools
 import gzip
 import os
@@ -23,6 +24,7 @@ import sys
 import tempfile
 import time
 
+import packages
 import records
 from journals import (
     ALFA,
@@ -42,7 +44,7 @@ from journals import (
     report,
     told,
 )
-from kept import END_SECONDS, City, Tried, ended
+from kept import END_SECONDS, City, Tried, ended, exchanging
 from wire import identifier
 
 SEED = 20_240_229
@@ -129,9 +131,9 @@ def cut_line(tail, whole):
     return f"{front}, are cut off the journal, and kept in a new journal.cut\n".encode() if tail else b""
 
 
-def started(city, served=lambda server: ()):
+def started(city, served=lambda server: (), **how):
     """A start: its status, its standard error, and what is found wrong while it serves, if it does."""
-    server = city.serve()
+    server = city.serve(**how)
     if server.ready != b"ready\n":
         _, err = server.process.communicate(timeout=END_SECONDS)
         return server.process.returncode, err, []
@@ -339,8 +341,8 @@ def tails_are_kept(sample, _):
                 yield f"{name} has the mode {mode:o}"
 
 
-def thinned(city):
-    return ended(city.program, "thin", city.folder, "--config", city.file)
+def thinned(city, **how):
+    return ended(city.program, "thin", city.folder, "--config", city.file, **how)
 
 
 def torn_journals_are_thinned(sample, _):
@@ -463,6 +465,54 @@ def a_removed_lock_behind_a_thinning(sample, _):
         yield from is_locked(city, server)
 
 
+@contextlib.contextmanager
+def losing_its_name(sample, behind=0):
+    """A city whose journal lacks the latest entries, the whole journal beside its folder, and the environment of a program that opens the
+    first one, and before whose lock the name goes to the other, behind so many locks."""
+    with sample.copy(sample.bytes[: sample.ends[len(sample.ends) // 2]]) as city:
+        os.mkdir(by := os.path.join(city.room, "next"))
+        write(longer := os.path.join(by, "journal"), sample.bytes)
+        yield city, longer, exchanging(city, by, "lock", behind)
+
+
+def goes_on(wanted, longer, server):
+    """The longer journal has the name, and is served: one more change is made."""
+    if os.path.exists(longer):
+        yield "the longer journal didn't get the name"
+    if told(server) != wanted:
+        yield "it tells of the journal that lost its name"
+    if (answer := server.ask("POST", "/fleet/events", ALFA, report(1, 9000).encode())).status != 200:
+        yield f"a report is answered {answer}"
+
+
+def a_name_lost_before_the_lock(sample, _):
+    """A journal that was opened, and lost its name to a longer one before it was locked, is neither served nor thinned. The longer one is, and
+    where another program has that a start is refused."""
+    packages.need("cc")
+    with sample.copy() as city, city.serve() as server:
+        wanted = told(server)
+    with losing_its_name(sample) as (city, longer, env):
+        status, err, found = started(city, functools.partial(goes_on, wanted, longer), env=env)
+        yield from found
+        if (status, err) != (0, b""):
+            yield f"a start ends with {status, err[:200]}"
+        if not city.bytes().startswith(sample.bytes) or len(records.read(city.bytes()).texts) != len(sample.texts) + 1:
+            yield "behind a start the name's journal isn't the longer one with a change more"
+    with losing_its_name(sample) as (city, longer, env), open(longer, "rb") as other:
+        fcntl.flock(other, fcntl.LOCK_EX)
+        status, err, _ = started(city, env=env)
+        if (status, err) != (4, LOCKED + city.folder.encode() + b"\n"):
+            yield f"where another program has the longer one a start ends with {status, err[:200]}"
+    # thin opens the folder twice: to cut what isn't whole, and to read the journal whose place the shorter one takes.
+    for behind in (0, 1):
+        with losing_its_name(sample, behind) as (city, longer, env):
+            if (found := thinned(city, env=env))[0] or os.path.exists(longer):
+                yield f"behind {behind} locks thin ends with {found}"
+            with city.serve() as server:
+                if told(server) != wanted:
+                    yield f"behind {behind} locks thin leaves another city than the longer journal's"
+
+
 # --- Links and modes -----------------------------------------------------------------------------------------------
 
 
@@ -525,6 +575,7 @@ CASES = (
     empty_files_are_journals,
     a_removed_lock,
     a_removed_lock_behind_a_thinning,
+    a_name_lost_before_the_lock,
     links_are_refused,
     links_beside_are_kept,
     modes_are_the_owners,

@@ -74,6 +74,61 @@ int rename(const char *from, const char *to) {
     return status;
 }
 """
+# Just before a program locks a city's journal, or opens it only to read it, and has done so a number of times, another journal and its file
+# compactions get the names of the city's. They do so once: then there is no other.
+EXCHANGED_FILES = b"""
+#undef _FORTIFY_SOURCE
+#define _GNU_SOURCE
+#include <dlfcn.h>
+#include <fcntl.h>
+#include <stdarg.h>
+#include <stdio.h>
+#include <stdlib.h>
+#include <string.h>
+#include <sys/file.h>
+#include <sys/types.h>
+#include <unistd.h>
+
+typedef int lock_of(int, int);
+typedef int open_of(const char *, int, ...);
+
+static void give(const char *name, const char *from, const char *to) {
+    char old[4096], new[4096];
+    snprintf(old, sizeof old, "%s/%s", from, name);
+    snprintf(new, sizeof new, "%s/%s", to, name);
+    rename(old, new);
+}
+
+static void exchange(const char *call, const char *path) {
+    static int passed;
+    const char *at = getenv("EXCHANGED_AT"), *from = getenv("EXCHANGED_BY"), *to = getenv("EXCHANGED_IN");
+    const char *behind = getenv("EXCHANGED_BEHIND");
+    char journal[4096];
+    if (!at || !from || !to || !behind || strcmp(at, call)) return;
+    snprintf(journal, sizeof journal, "%s/journal", to);
+    if (strcmp(path, journal) || passed++ < atoi(behind)) return;
+    give("compactions", from, to);
+    give("journal", from, to);
+}
+
+int flock(int file, int how) {
+    char link[64], path[4096];
+    snprintf(link, sizeof link, "/proc/self/fd/%d", file);
+    ssize_t length = readlink(link, path, sizeof path - 1);
+    path[length < 0 ? 0 : length] = 0;
+    exchange("lock", path);
+    return ((lock_of *)dlsym(RTLD_NEXT, "flock"))(file, how);
+}
+
+int open(const char *path, int how, ...) {
+    va_list rest;
+    va_start(rest, how);
+    mode_t mode = how & O_CREAT ? va_arg(rest, mode_t) : 0;
+    va_end(rest);
+    if ((how & O_ACCMODE) == O_RDONLY) exchange("open", path);
+    return ((open_of *)dlsym(RTLD_NEXT, "open"))(path, how, mode);
+}
+"""
 
 
 @functools.cache
@@ -173,6 +228,14 @@ def held(folder, file):
 def told_of(folder, file):
     """The environment of a program that tells in a file of each sync, by the path of what is synced, and of each name that it gives."""
     return os.environ | {"LD_PRELOAD": preloaded(folder, "told_sync.so", TOLD_SYNC), "SYNC_TOLD_IN": file}
+
+
+def exchanging(city, by, call, behind=0):
+    """The environment of a program before whose `lock` of a city's journal, or `open` only to read it, behind so many of them, the files
+    compactions and journal of another folder get the names of the city's, those that are there. It is built into the city's room."""
+    library = preloaded(city.room, "exchanged_files.so", EXCHANGED_FILES)
+    places = {"EXCHANGED_IN": os.path.realpath(city.folder), "EXCHANGED_BY": by}
+    return os.environ | {"LD_PRELOAD": library, "EXCHANGED_AT": call, "EXCHANGED_BEHIND": str(behind)} | places
 
 
 class City:

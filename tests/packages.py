@@ -68,6 +68,12 @@ def leave_out(what, *names):
     return leave_out_since(what, INSTALL + " ".join(PACKAGES[it] for it in names))
 
 
+def need(*names):
+    """Leaves a test out for want of one of these programs."""
+    if missing := [it for it in names if not program(it)]:
+        raise LeftOut(INSTALL + " ".join(PACKAGES[it] for it in missing))
+
+
 def end_without(what, *names):
     """Ends a test that can't be done without these modules or programs."""
     counts = leave_out(what, *names)

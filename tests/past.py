@@ -7,23 +7,26 @@ Cities are made by chance as for tests/report.py, in the days before now. At man
 script that `ruffletuff audit` prints, the operator's own question is put in front of the first request that is later, and mds_replay
 answers; that is what the operator, and the author by each oversight, are to be told, byte for byte, also behind changes that come later.
 Refusals are tried in their order; a journal that was thinned with an archive, without one, and with one whose files are gone or damaged;
-questions of three clients at once, of which one is worked out; and that a question leaves nothing behind. Prints what differs, and last
-'N passed, M failed'; ends with 1 where one failed.
+one that is replaced by a thinned one while a question looks for it (wants a compiler of C, packages.py); questions of three clients at
+once, of which one is worked out; and that a question leaves nothing behind. Prints what differs, and last 'N passed, M failed'; ends with
+1 where one failed.
 """
 
 import argparse
 import json
 import os
 import re
+import shutil
 import sys
 import tempfile
 import threading
 import time
 
+import packages
 import records
 from app import expect, refused
 from journals import REPLAY
-from kept import Alone, City, Tried, ended, replayed, split
+from kept import Alone, City, Tried, ended, exchanging, replayed, split
 from oversight import ALFA, BRAVO, CHARLIE, configured, counted, parts
 from report import ALFA_ID, BRAVO_ID, DAY, HOUR, NEW_YORK, Chance, accepted, line, payloads
 from report import configuration as of_report
@@ -262,6 +265,63 @@ def an_archive(given):
     yield from ()
 
 
+def reported_twice(given, room):
+    """A city one of whose vehicles was reported before a moment, and again behind it; that moment, and the fleet as it stood then."""
+    city = City(given.program, room, configured("vehicles"))
+    with city.serve() as server:
+        reports(server, FIRST, (1, 2))
+        at = reports(server, FIRST, (1,))
+        body = told(server, "/app/fleet", FIRST, at)
+        reports(server, FIRST, (1,))
+        server.stop()
+    return city, at, body
+
+
+def thinned_beside(city, *words):
+    """The folder of a copy of a city, thinned."""
+    os.mkdir(room := os.path.join(city.room, "beside"))
+    other = City(city.program, room, configured("vehicles"))
+    shutil.copytree(city.folder, other.folder)
+    thinned(other, *words)
+    return other.folder
+
+
+def is_looked_for_again(given, room, *words):
+    """Once a question has read which compactions there were, and before it opens the journal, a thinned one gets its name, and the thinning
+    is recorded: the answer to the question, and the fleet as it stood. Where nothing were recorded, the thinned journal would tell of
+    another fleet."""
+    city, at, body = reported_twice(given, room)
+    folder, by = thinned_beside(city, *words), os.path.join(room, "next")
+    with city.serve("--thin-at", "0", *words, env=exchanging(city, by, "open")) as server:
+        os.rename(folder, by)
+        answer = asked(server, "/app/fleet", FIRST, at)
+        expect(not os.path.exists(os.path.join(by, "journal")), "no other journal got the name meanwhile")
+        said = server.stop()[2]
+        expect(not UNTOLD.findall(said), f"standard error says {said[:300]}")
+    with open(os.path.join(city.folder, "compactions"), "wb"):
+        pass
+    with city.serve() as server:
+        expect(told(server, "/app/fleet", FIRST, at) != body, "the thinned journal tells of the same fleet")
+        server.stop()
+    return answer, body
+
+
+def thinned_meanwhile(given):
+    """Of a journal that is thinned while a question looks for it the archived one tells, or none does where there is none; and never the
+    thinned one."""
+    packages.need("cc")
+    for is_archived in (True, False):
+        with tempfile.TemporaryDirectory(prefix="past-") as made:
+            room = os.path.realpath(made)
+            os.mkdir(archive := os.path.join(room, "archive"))
+            answer, body = is_looked_for_again(given, room, *(("--archive", archive) if is_archived else ()))
+            if is_archived:
+                expect((answer.status, answer.body) == (200, body), f"with an archive: {answer}")
+            else:
+                is_refused(answer, 410, NOT_KEPT, "without an archive")
+    yield from ()
+
+
 def a_copied_journal(given):
     """Of a journal that came without its folder nothing is told before its latest entry."""
     with tempfile.TemporaryDirectory(prefix="past-") as room:
@@ -354,7 +414,7 @@ def main():
     given = parser.parse_args()
     given.program, given.replay = os.path.abspath(given.program), os.path.abspath(given.replay)
     found = Tried()
-    for call in (moments_of_the_past, refusals, an_archive, a_copied_journal, a_fault_is_said, at_once):
+    for call in (moments_of_the_past, refusals, an_archive, thinned_meanwhile, a_copied_journal, a_fault_is_said, at_once):
         found.one(call.__name__.replace("_", " "), call(given))
     return found.told()
 

@@ -8,11 +8,13 @@ schemas in tests/mds (Debian's python3-jsonschema), which are written from the t
 docs/openapi-mds.yaml (Debian's python3-yaml); nothing of a policy of one operator; a policy's document as the author wrote it; the moment
 of a withdrawal as its `end_date`; `start_date` and `end_date` as queries of the list; fronts of the publications, none earlier than one
 before, to many who ask at once; the same after a restart; the version in the type, 406 for another one, 405 with `allow`, 404 and 400 with
-an error by the standard; a page of any origin may read it; the same without a body for HEAD; and that all of it is refused as to a
-anonymous where the configuration doesn't turn it on. Prints what is otherwise, and last 'N passed, M failed'; ends with 1 where one failed.
+an error by the standard; a page of any origin may read it; the same without a body for HEAD; that documents are made once a
+publication, however often they are asked for; and that all of it is refused as to a anonymous where the configuration doesn't turn it on.
+Prints what is otherwise, and last 'N passed, M failed'; ends with 1 where one failed.
 """
 
 import json
+import math
 import os
 import sys
 import tempfile
@@ -41,6 +43,11 @@ SQUARE, OWN_SQUARE, UNNAMED = (identifier(1, n) for n in (1, 2, 3))
 CAP, OWN_CAP, WITHDRAWN, LATE, ENDED, NAMING_NOBODY, TWO_OPERATORS = (identifier(2, n) for n in range(1, 8))
 # Moments at which the documents of these tests hold, long before and behind any test.
 EARLY, MIDDLE, END = 1_000_000_000_000, 1_100_000_000_000, 4_000_000_000_000
+# Places whose documents take long to make: how many, and of how many corners each.
+PLACES, CORNERS = 16, 2_000
+# How often short documents are asked for. Where there are long ones beside them that takes at most so many times the processor's time, and
+# so many seconds more: to make the long ones takes some fifty times that of an answer.
+ROUNDS, ASKED, TIMES, MORE = 4, 100, 4, 0.1
 # What an error is named by its status.
 DENIED = {400: "bad_param", 404: "not_found", 405: "method", 406: "not_acceptable"}
 
@@ -383,6 +390,54 @@ def many_ask_at_once(program):
     yield from ()
 
 
+def round_place(number):
+    """A geography of many corners, as its author drafts it."""
+    turns = [2 * math.pi * it / CORNERS for it in range(CORNERS)]
+    ring = [[round(5 + math.cos(it), 7), round(5 + math.sin(it), 7)] for it in turns]
+    area = geography(identifier(1, number), "round")
+    area["geography_json"]["features"][0]["geometry"]["coordinates"] = [[*ring, ring[0]]]
+    return area
+
+
+def processor_seconds(city):
+    """The processor's time that a program has taken by now, in all of its threads."""
+    with open(f"/proc/{city.process.pid}/stat", encoding="ascii") as text:
+        fields = text.read().rpartition(")")[2].split()
+    return (int(fields[11]) + int(fields[12])) / os.sysconf("SC_CLK_TCK")
+
+
+def taken_by_asking(city, times):
+    """The processor's time that it takes to tell two short documents so many times."""
+    begun = processor_seconds(city)
+    with Link(city.port) as link:
+        for _ in range(times):
+            for target in (f"/mds/2.0/policies/{CAP}", f"/mds/2.0/geographies/{SQUARE}"):
+                link.send(f"GET {target} HTTP/1.1\r\nhost: x\r\n\r\n".encode())
+                answer = link.answer()
+                expect(answer.status == 200, f"GET {target}: {answer}")
+    return processor_seconds(city) - begun
+
+
+def documents_are_made_once(program):
+    """Short documents take about as much of the processor where there are many long ones beside them as where there are none: what was made
+    for the first who asked is told to all others, until the next publication."""
+    given = open_to_all(configuration())
+    with Alone(program, given) as few, Alone(program, given) as many:
+        for city in (few, many):
+            publish(city, [geography(SQUARE, "square")], [policy(CAP, [SQUARE], EARLY)])
+        places = [round_place(100 + it) for it in range(PLACES)]
+        publish(many, places, [policy(LATE, [it["geography_id"] for it in places], EARLY)])
+        length = int(ask(many, "HEAD", "/mds/2.0/geographies")[1]["content-length"])
+        expect(length > 10 * PLACES * CORNERS, f"the list has {length} bytes")
+        ask(few, "HEAD", "/mds/2.0/geographies")
+        of_few = of_many = 0
+        for _ in range(ROUNDS):
+            of_few += taken_by_asking(few, ASKED)
+            of_many += taken_by_asking(many, ASKED)
+            expect(of_many <= TIMES * of_few + MORE, f"beside long documents short ones take {of_many:.2f} s, and alone {of_few:.2f} s")
+    yield from ()
+
+
 def it_is_off(program, says):
     """Where the configuration doesn't turn it on these paths are an anonymous client's."""
     with Alone(program, configuration() if says is None else open_to_all(configuration(), says)) as city:
@@ -411,6 +466,7 @@ def main():
         tried.one("operators of a policy", whom_a_policy_names(city))
     tried.one("a restart", a_restart_tells_the_same(program))
     tried.one("many at once", many_ask_at_once(program))
+    tried.one("asked again", documents_are_made_once(program))
     # None stands for a configuration that says nothing of it.
     for says in (None, False, "true", 1):
         tried.one(f"public: {says}", it_is_off(program, says))
