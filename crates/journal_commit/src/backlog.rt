@@ -1,16 +1,20 @@
 //! The state under the commit log's lock: the payloads that wait for the flusher, and the disk space reserved for them.
-ghost use Rattle.std.specs.Prelude.{◌≡◌, ◌+◌, ◌≤◌, ◌<◌, ◌++◌, ◌∷◌, [], length, map, true, IfOk, IfSome, IfNone, OnOk, OnErr, OnSome, if◌then◌else◌, get_or, drop, false, vec_len, vec_capacity};
+ghost use Rattle.std.specs.Prelude.{◌≡◌, ◌≢◌, ◌+◌, ◌≤◌, ◌<◌, ◌++◌, ◌∷◌, [], length, map, max, true, Some, None, IfOk, IfSome, IfNone, OnOk, OnErr, OnSome, if◌then◌else◌, get_or, drop, false, vec_len, vec_capacity};
 ghost use mathlib.Core.List.{IsPrefix};
 ghost use Rattle.journal_file.specs.Groups.{is_taken};
 ghost use Rattle.journal_commit.specs.Clients.{AreOf, GoesOnBy, of_client};
 ghost use Rattle.journal_commit.specs.Durable.{chosen};
 ghost use Rattle.journal_commit.specs.Tables.{bytes_in, holding};
 ghost use Rattle.journal_commit.specs.declared.decisions.TheConstants.{MOST_TEXTS};
+ghost use Rattle.journal_commit.specs.declared.decisions.Round.TheVariants as rounds;
 ghost use Rattle.journal_commit.specs.declared.backlog.TheConstants.{RECORD_OVERHEAD};
 ghost use Rattle.journal_commit.specs.declared.reserved_space.TheConstants.{STEP};
 
 use crate::client_shares::ClientShares;
-use crate::decisions::{MOST_CLIENTS, MOST_TEXTS, MOST_TEXTS_OF_ONE, Round, Usage, next_round};
+use crate::decisions::{
+    MOST_CLIENTS, MOST_TEXTS, MOST_TEXTS_OF_ONE, Round, Usage, all_confirmed_after, is_confirmed,
+    next_round,
+};
 use crate::failure::LogFailure;
 use crate::history::{CommitLedger, LogName, LogPosition};
 use crate::own_records::OwnRecords;
@@ -104,6 +108,8 @@ pub(crate) struct CommitBacklog<K: LogName, L: Log, S: Space> {
     shares: ClientShares,
     /// Whether no further reservation is made.
     is_stopping: bool,
+    /// The round behind which another confirms all responses that wait; none where no response ever waited for one.
+    wanted: Option<u64>,
     ghost used: { room.used ≡ bytes_in shares.each.items },
 }
 
@@ -317,6 +323,7 @@ impl<K: LogName, L: Log, S: Space> CommitBacklog<K, L, S> {
             room: ReservedSpace::new(space),
             shares: ClientShares::new(alloc, clients)?,
             is_stopping: false,
+            wanted: None,
         })
     }
 
@@ -571,12 +578,24 @@ impl<K: LogName, L: Log, S: Space> CommitBacklog<K, L, S> {
         }
     }
 
-    /// What the flusher does next.
-    pub(crate) fn round(&self) -> Round {
+    /// A response waits for a round behind this one.
+    pub(crate) fn want_round(&mut self, begun: u64)
+        ensures first { self.old.wanted ≡ None → self.new.wanted ≡ Some begun }
+        ensures both { IfSome self.old.wanted (λ before. self.new.wanted ≡ Some (max before begun)) }
+        ensures queue { self.new.queue ≡ self.old.queue }
+    {
+        self.wanted = Some(all_confirmed_after(self.wanted, begun));
+    }
+
+    /// What the flusher does next, by the last round that ended well. No round is under way.
+    pub(crate) fn round(&self, ended: u64) -> Round
+        ensures { self.now.wanted ≡ None → result ≢ rounds.Confirm }
+    {
         next_round(
             self.queue.len(),
             self.shares.reserved_count(),
             self.is_stopping,
+            !is_confirmed(self.wanted, ended),
         )
     }
 

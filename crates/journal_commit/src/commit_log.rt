@@ -1,5 +1,5 @@
 //! The commit log that all desks and the room share: it appends their records, and says when a response may leave.
-ghost use Rattle.std.specs.Prelude.{◌≡◌, ◌++◌, ◌∷◌, ◌≤◌, [], map, ℕ, List, IfOk, IfNone, IfSome, OnOk, OnErr, vec_capacity};
+ghost use Rattle.std.specs.Prelude.{◌≡◌, ◌++◌, ◌∷◌, ◌≤◌, [], map, ℕ, List, None, true, IfOk, IfNone, IfSome, OnOk, OnErr, vec_capacity};
 ghost use mathlib.Core.List.{IsPrefix};
 ghost use Rattle.journal_commit.specs.Clients.{AreOf, GoesOnBy};
 ghost use Rattle.journal_commit.specs.Durable.{AreDurable, AreLast, IsLast, chosen};
@@ -7,11 +7,12 @@ ghost use Rattle.journal_commit.specs.declared.decisions.TheConstants.{MOST_TEXT
 ghost use Rattle.journal_commit.specs.declared.decisions.ResponseTiming.TheVariants as tellings;
 
 use crate::backlog::{CommitBacklog, Reservation, Reservations, ReserveFault};
-use crate::decisions::{ResponseTiming, Round, Usage, may_respond};
+use crate::decisions::{Confirmation, ResponseTiming, Round, Usage, may_respond, response_failure};
 use crate::failure::{FailureFlag, LogFailure};
 use crate::flusher::{FlushFault, Flusher};
 use crate::history::{CommitLedger, LogName, LogPosition, UnnamedHistory};
 use crate::own_records::OwnRecords;
+use crate::rounds::Rounds;
 use crate::space::Space;
 use journal_file::Log;
 use std::alloc::{AllocError, Global};
@@ -22,7 +23,8 @@ use tokio::sync::{Notify, OwnedNotified};
 /// Why a response doesn't leave.
 #[derive(Clone, Copy, Debug, PartialEq, Eq)]
 pub enum CommitFault {
-    /// An append or a sync failed: no response leaves any more, and the program ends.
+    /// An append or a sync failed: no response leaves any more, and the program ends. Or the flusher ended before the
+    /// response was confirmed.
     Failed(LogFailure),
     /// Out of memory to wait.
     NoMemory,
@@ -48,11 +50,14 @@ pub struct CommitLog<K: LogName, L: Log, S: Space> {
     /// Wakes waiting tasks at the same events.
     told: Arc<Notify>,
     failed: FailureFlag,
+    pub(crate) rounds: Rounds,
+    /// Whether the flusher has ended, so that no round comes any more.
+    ended: FailureFlag,
 }
 
 /// Begins to serve over a log, after what it has: returns the commit log, the flusher, and the log position at which
 /// nothing is appended. A client is a number below `clients`, and at most [`MOST_CLIENTS`](crate::MOST_CLIENTS) of these
-/// have a share of what may wait.
+/// have a share of what may wait. Where responses need no confirmation, the log is synced for what was appended alone.
 ///
 /// # Errors
 ///
@@ -63,6 +68,7 @@ pub fn open<K: LogName, L: Log, S: Space>(
     log: L,
     space: S,
     clients: usize,
+    confirmation: Confirmation,
 ) -> Result<(CommitLog<K, L, S>, Flusher<K, L>, LogPosition<K, L>), AllocError>
     requires book { opened.seen.book ≡ K.book }
     requires listed { (first : List (List ℕ)) × L.may_be log first }
@@ -79,6 +85,8 @@ pub fn open<K: LogName, L: Log, S: Space>(
         synced: Condvar::new(),
         told: Arc::new(alloc, Notify::new(alloc)?)?,
         failed: FailureFlag::new(),
+        rounds: Rounds::new(confirmation),
+        ended: FailureFlag::new(),
     };
     Ok((keeper, flusher, nothing))
 }
@@ -209,7 +217,7 @@ impl<K: LogName, L: Log, S: Space> CommitLog<K, L, S> {
     }
 
     /// Appends a record, and waits until it is synced: for what becomes visible to others at once, as a publication
-    /// does.
+    /// does. The round that syncs it begins after it was appended, so that it is confirmed by that round too.
     ///
     /// # Errors
     ///
@@ -252,26 +260,37 @@ impl<K: LogName, L: Log, S: Space> CommitLog<K, L, S> {
         known.later(&self.ledger)
     }
 
-    /// Whether a response with this log position may leave. It doesn't wait.
-    pub fn may_respond(&self, stamp: &LogPosition<K, L>) -> ResponseTiming
-        ensures { result ≡ tellings.Now → AreDurable L.may_be L.is_synced stamp.now }
-    {
-        let failure = self.failed.failure();
-        let synced = stamp.synced_prefix(&self.ledger);
-        may_respond(failure, stamp.is_within(&synced))
+    /// The round behind which another confirms a response that was made by now: see
+    /// [`confirmed_after`](crate::confirmed_after). It doesn't wait.
+    pub fn confirmed_after(&self) -> Option<u64> {
+        self.rounds.confirmed_after()
     }
 
-    /// Blocks the thread until everything up to a log position is synced.
+    /// Whether a response with this log position may leave, by the round behind which another confirms it, as it was once
+    /// the response was made. It doesn't wait.
+    pub fn may_respond(&self, stamp: &LogPosition<K, L>, after: Option<u64>) -> ResponseTiming
+        ensures { result ≡ tellings.Now → AreDurable L.may_be L.is_synced stamp.now }
+    {
+        let failed = self.failed.failure();
+        // Behind the flusher's end no round ends any more, so what is seen of the rounds then stays so.
+        let ended = self.ended.failure();
+        let is_confirmed = self.rounds.is_confirmed(after);
+        let synced = stamp.synced_prefix(&self.ledger);
+        let failure = response_failure(failed, ended, is_confirmed);
+        may_respond(failure, stamp.is_within(&synced), is_confirmed)
+    }
+
+    /// Blocks the thread until everything up to a log position is synced. It waits for no other round.
     ///
     /// # Errors
     ///
     /// The commit log failed.
-    pub fn wait<R: Wait>(&self, rt: &R, stamp: &LogPosition<K, L>) -> Result<(), CommitFault>
+    fn wait<R: Wait>(&self, rt: &R, stamp: &LogPosition<K, L>) -> Result<(), CommitFault>
         ensures { OnOk result (AreDurable L.may_be L.is_synced stamp.now) }
     {
         let mut backlog = self.backlog.lock(rt);
         for _ in rt.forever() {
-            match self.may_respond(stamp) {
+            match self.may_respond(stamp, None) {
                 ResponseTiming::Now => return Ok(()),
                 ResponseTiming::Never(failure) => return Err(CommitFault::Failed(failure)),
                 ResponseTiming::Later => {}
@@ -281,7 +300,8 @@ impl<K: LogName, L: Log, S: Space> CommitLog<K, L, S> {
         unreachable!()
     }
 
-    /// Stops making reservations. The flusher ends once nothing waits and nothing is reserved.
+    /// Stops making reservations. The flusher ends once nothing waits, no response that waits wants a round, and nothing
+    /// is reserved. A response that isn't confirmed by then never leaves.
     pub fn stop<R: Wait>(&self, rt: &R) {
         self.backlog.lock(rt).stop();
         self.more.notify_one();
@@ -292,7 +312,29 @@ impl<K: LogName, L: Log, S: Space> CommitLog<K, L, S> {
         Ok(Notify::notified_owned(Arc::try_clone(&self.told)?))
     }
 
-    /// Waits until there is something to do, and moves all that waits into the group. None where the flusher is to end.
+    /// Asks the flusher for a round behind this one, where none has ended. Returns whether it did, or need not: it doesn't
+    /// where the lock is held at this moment.
+    pub(crate) fn want_round(&self, after: Option<u64>) -> bool
+        ensures { after ≡ None → result ≡ true }
+    {
+        let Some(begun) = after else {
+            return true;
+        };
+        if self.rounds.is_confirmed(after) {
+            return true;
+        }
+        // Under the lock: the flusher then doesn't fall asleep between its look at what is wanted and this call.
+        let Some(mut backlog) = self.backlog.try_lock() else {
+            return false;
+        };
+        backlog.want_round(begun);
+        mem::drop(backlog);
+        self.more.notify_one();
+        true
+    }
+
+    /// Waits until there is something to do, and moves all that waits into the group, which stays empty where responses
+    /// alone want a round. None where the flusher is to end.
     pub(crate) fn next<R: Wait>(
         &self,
         rt: &R,
@@ -306,15 +348,16 @@ impl<K: LogName, L: Log, S: Space> CommitLog<K, L, S> {
         ensures fault { OnErr result (group.new.items ≡ []) }
         ensures capacity { MOST_TEXTS ≤ vec_capacity group.new }
     {
+        let ended = self.rounds.ended();
         let mut backlog = self.more.wait_while(rt, self.backlog.lock(rt), |backlog| {
-            backlog.round() == Round::Wait && self.failed.failure().is_none()
+            backlog.round(ended) == Round::Wait && self.failed.failure().is_none()
         });
         if self.failed.failure().is_some() {
             return Err(FlushFault::Failed);
         }
-        match backlog.round() {
+        match backlog.round(ended) {
             Round::End => Ok(None),
-            Round::Flush | Round::Wait => match backlog.take(group, taken) {
+            Round::Flush | Round::Confirm | Round::Wait => match backlog.take(group, taken) {
                 Some(stamp) => Ok(Some(stamp)),
                 None => Err(FlushFault::Failed),
             },
@@ -327,6 +370,12 @@ impl<K: LogName, L: Log, S: Space> CommitLog<K, L, S> {
         mem::drop(self.backlog.lock(rt));
         self.synced.notify_all();
         self.told.notify_waiters();
+    }
+
+    /// The flusher has ended: from now on a response leaves only where it is confirmed by now.
+    pub(crate) fn end_rounds<R: Wait>(&self, rt: &R) {
+        self.ended.set();
+        self.wake_waiting(rt);
     }
 
     /// From now on no response leaves any more.

@@ -1,6 +1,7 @@
-//! When a response may leave, what the flusher does next, and whether a reservation may be made: decisions over plain
-//! values.
-ghost use Rattle.std.specs.Prelude.{◌≡◌, ◌+◌, ◌<◌, ◌≤◌, true, false, IfSome, IsTrue, None, ◌↔◌};
+//! When a response may leave, which round confirms it, what the flusher does next, and whether a reservation may be
+//! made: decisions over plain values.
+ghost use Rattle.std.specs.Prelude.{◌≡◌, ◌+◌, ◌<◌, ◌≤◌, max, true, false, IfSome, IfNone, IsTrue, Some, None, ◌↔◌};
+ghost use Rattle.journal_commit.specs.declared.decisions.Confirmation.TheVariants as confirmations;
 ghost use Rattle.journal_commit.specs.declared.decisions.Round.TheVariants as rounds;
 ghost use Rattle.journal_commit.specs.declared.decisions.ResponseTiming.TheVariants as tellings;
 ghost use Rattle.journal_commit.specs.Shares.{MayReserve};
@@ -33,14 +34,24 @@ pub struct Usage {
     pub bytes: u64,
 }
 
+/// Whether responses wait for a confirmation: for a round, as the flusher's syncs are, that begins after the response
+/// was made and ends well. It shows that at some moment of it this process still owned the log.
+#[derive(Clone, Copy, Debug, PartialEq, Eq)]
+pub enum Confirmation {
+    /// None does: no other process can come to own the log, as where it is a locked file.
+    NotNeeded,
+    /// Each does, whatever it shows.
+    EachResponse,
+}
+
 /// Whether a response may leave.
 #[derive(Clone, Copy, Debug, PartialEq, Eq)]
 pub enum ResponseTiming {
-    /// All that it shows is synced.
+    /// All that it shows is synced, and it is confirmed where that is needed.
     Now,
-    /// Once what it shows is synced.
+    /// Once both are so.
     Later,
-    /// Never: an append or a sync failed.
+    /// Never: an append or a sync failed, or the flusher ended before the response was confirmed.
     Never(LogFailure),
 }
 
@@ -49,34 +60,97 @@ pub enum ResponseTiming {
 pub enum Round {
     /// It waits: nothing is to be written.
     Wait,
-    /// It writes and syncs all that waits.
+    /// It writes and syncs all that waits, which confirms responses too.
     Flush,
+    /// It syncs alone, to confirm responses: nothing is to be written.
+    Confirm,
     /// It ends: nothing waits, and nothing more can come.
     End,
 }
 
-/// Whether a response may leave, by whether an append or a sync has failed, and whether all that it shows is synced.
-pub fn may_respond(failure: Option<LogFailure>, is_synced: bool) -> ResponseTiming
-    ensures never { IfSome failure (λ failed. result ≡ tellings.Never failed) }
-    ensures now { failure ≡ None → is_synced ≡ true → result ≡ tellings.Now }
-    ensures later { failure ≡ None → is_synced ≡ false → result ≡ tellings.Later }
+/// The round behind which another confirms a response that is made now: the last that has begun, since it may have shown
+/// who owns the log before the response was made. None where no confirmation is needed.
+pub fn confirmed_after(confirmation: Confirmation, begun: u64) -> Option<u64>
+    ensures none { confirmation ≡ confirmations.NotNeeded → result ≡ None }
+    ensures last { confirmation ≡ confirmations.EachResponse → result ≡ Some begun }
 {
-    match (failure, is_synced) {
+    match confirmation {
+        Confirmation::NotNeeded => None,
+        Confirmation::EachResponse => Some(begun),
+    }
+}
+
+/// Whether a response is confirmed, by the round behind which another confirms it, and the last that ended well.
+pub fn is_confirmed(after: Option<u64>, ended: u64) -> bool
+    ensures none { after ≡ None → result ≡ true }
+    ensures later { IfSome after (λ begun. IsTrue result ↔ (begun < ended)) }
+{
+    match after {
+        None => true,
+        Some(begun) => begun < ended,
+    }
+}
+
+/// The round behind which another confirms all responses that wait, by that of those before and that of one more.
+pub(crate) fn all_confirmed_after(wanted: Option<u64>, begun: u64) -> u64
+    ensures first { wanted ≡ None → result ≡ begun }
+    ensures both { IfSome wanted (λ before. result ≡ max before begun) }
+{
+    match wanted {
+        None => begun,
+        Some(before) => before.max(begun),
+    }
+}
+
+/// Why a response never leaves, by the log's failure, the end of the flusher, after which no round comes, and whether
+/// the response is confirmed. None where it may still leave.
+pub(crate) fn response_failure(
+    failed: Option<LogFailure>,
+    ended: Option<LogFailure>,
+    is_confirmed: bool,
+) -> Option<LogFailure>
+    ensures failed { IfSome failed (λ failure. result ≡ Some failure) }
+    ensures confirmed { failed ≡ None → is_confirmed ≡ true → result ≡ None }
+    ensures unconfirmed { failed ≡ None → is_confirmed ≡ false → result ≡ ended }
+{
+    match (failed, is_confirmed) {
+        (Some(failure), _) => Some(failure),
+        (None, true) => None,
+        (None, false) => ended,
+    }
+}
+
+/// Whether a response may leave, by why it never does, whether all that it shows is synced, and whether it is confirmed.
+pub fn may_respond(
+    failure: Option<LogFailure>,
+    is_synced: bool,
+    is_confirmed: bool,
+) -> ResponseTiming
+    ensures never { IfSome failure (λ failed. result ≡ tellings.Never failed) }
+    ensures now { failure ≡ None → is_synced ≡ true → is_confirmed ≡ true → result ≡ tellings.Now }
+    ensures unsynced { failure ≡ None → is_synced ≡ false → result ≡ tellings.Later }
+    ensures unconfirmed { failure ≡ None → is_confirmed ≡ false → result ≡ tellings.Later }
+{
+    match (failure, is_synced && is_confirmed) {
         (Some(failed), _) => ResponseTiming::Never(failed),
         (None, true) => ResponseTiming::Now,
         (None, false) => ResponseTiming::Later,
     }
 }
 
-/// What the flusher does next, by how many payloads wait, how many reservations there are, and whether it is to stop.
-pub fn next_round(waiting: usize, held: usize, is_stopping: bool) -> Round
+/// What the flusher does next, by how many payloads wait, how many reservations there are, whether it is to stop, and
+/// whether a round is wanted by a response that waits.
+pub fn next_round(waiting: usize, held: usize, is_stopping: bool, is_wanted: bool) -> Round
     ensures flush { 0 < waiting → result ≡ rounds.Flush }
-    ensures end { waiting ≡ 0 → held ≡ 0 → is_stopping ≡ true → result ≡ rounds.End }
-    ensures held { waiting ≡ 0 → 0 < held → result ≡ rounds.Wait }
-    ensures wait { waiting ≡ 0 → is_stopping ≡ false → result ≡ rounds.Wait }
+    ensures confirm { waiting ≡ 0 → is_wanted ≡ true → result ≡ rounds.Confirm }
+    ensures end { waiting ≡ 0 → is_wanted ≡ false → held ≡ 0 → is_stopping ≡ true → result ≡ rounds.End }
+    ensures held { waiting ≡ 0 → is_wanted ≡ false → 0 < held → result ≡ rounds.Wait }
+    ensures wait { waiting ≡ 0 → is_wanted ≡ false → is_stopping ≡ false → result ≡ rounds.Wait }
 {
     if waiting > 0 {
         Round::Flush
+    } else if is_wanted {
+        Round::Confirm
     } else if is_stopping && held == 0 {
         Round::End
     } else {

@@ -1,20 +1,20 @@
 //! The failure of a log: nobody has one before its flag is set.
 use std::sync::atomic::{AtomicBool, Ordering};
 
-/// A log failed. Only the flag of a log makes one, and only once it is set.
+/// A log failed, or its flusher ended. Only a flag of the log makes one, and only once it is set.
 #[derive(Clone, Copy, Debug, PartialEq, Eq)]
 pub struct LogFailure {
     flag: (),
 }
 
-/// Whether a log failed. Once it is set it stays so.
+/// Whether a log failed, or its flusher ended. Once it is set it stays so.
 #[derive(Drop)]
 pub(crate) struct FailureFlag {
     is_set: AtomicBool,
 }
 
 impl FailureFlag {
-    /// The flag of a log that hasn't failed.
+    /// The flag isn't set.
     pub(crate) fn new() -> FailureFlag {
         FailureFlag {
             is_set: AtomicBool::new(false),
@@ -27,7 +27,7 @@ impl FailureFlag {
         LogFailure { flag: () }
     }
 
-    /// The failure, where the log failed.
+    /// The failure, where the flag is set.
     pub(crate) fn failure(&self) -> Option<LogFailure> {
         if self.is_set.load(Ordering::SeqCst) {
             Some(LogFailure { flag: () })

@@ -7,6 +7,7 @@ ghost use Rattle.journal_commit.specs.declared.decisions.TheConstants.{MOST_TEXT
 use crate::commit_log::CommitLog;
 use crate::decisions::MOST_TEXTS;
 use crate::history::{CommitLedger, LogName, LogPosition};
+use crate::rounds::Rounds;
 use crate::space::Space;
 use journal_file::{AppendFault, Log, SyncFault};
 use std::alloc::{AllocError, Global};
@@ -45,6 +46,8 @@ struct FlushedLog<K: LogName, L: Log> {
     taken: LogPosition<K, L>,
     /// How many of the payloads the ledger reports as synced.
     synced: u64,
+    /// The number of the last round that has begun.
+    round: u64,
 }
 
 impl<K: LogName, L: Log> Model for FlushedLog<K, L> {
@@ -110,7 +113,7 @@ pub struct Flusher<K: LogName, L: Log> {
 }
 
 impl<K: LogName, L: Log> FlushedLog<K, L> {
-    /// Appends a group, syncs it, and records that in the ledger.
+    /// A round: appends a group, syncs it, and records that in the ledger. Where the group is empty it syncs alone.
     ///
     /// # Errors
     ///
@@ -118,6 +121,7 @@ impl<K: LogName, L: Log> FlushedLog<K, L> {
     fn flush(
         &mut self,
         ledger: &CommitLedger<K, L>,
+        rounds: &Rounds,
         group: &[Vec<u8>],
         reached: LogPosition<K, L>,
     ) -> Result<(), FlushFault>
@@ -125,11 +129,16 @@ impl<K: LogName, L: Log> FlushedLog<K, L> {
         ensures all { OnOk result (self.new ≡ reached) }
         ensures synced { OnOk result (AreSynced L.may_be L.is_synced reached) }
     {
-        self.position = self.log.append(self.position, group)?;
+        let round = rounds.begin(self.round).ok_or(FlushFault::Failed)?;
+        self.round = round.number();
+        if !group.is_empty() {
+            self.position = self.log.append(self.position, group)?;
+        }
         self.taken = reached;
-        self.log.sync()?;
+        let ended = round.sync(&mut self.log)?;
         self.taken.publish(ledger, &self.log, self.synced);
         self.synced = self.taken.len();
+        rounds.announce(ended);
         Ok(())
     }
 
@@ -149,6 +158,7 @@ impl<K: LogName, L: Log> FlushedLog<K, L> {
             position: _,
             taken,
             synced: _,
+            round: _,
         } = self;
         let mut log = log;
         log.sync()?;
@@ -180,12 +190,14 @@ impl<K: LogName, L: Log> Flusher<K, L> {
                 position,
                 taken: nothing.again(),
                 synced: 0,
+                round: 0,
             },
             group: Vec::with_capacity(alloc, MOST_TEXTS)?,
         })
     }
 
-    /// Waits for what is to be written, and writes and syncs it. Returns false where nothing more can come.
+    /// Waits for what is to be written, or for a response that wants a round, and writes and syncs. Returns false where
+    /// nothing more can come.
     fn flush_next<R: Wait, S: Space>(
         &mut self,
         rt: &R,
@@ -195,7 +207,9 @@ impl<K: LogName, L: Log> Flusher<K, L> {
         let Some(reached) = keeper.next(rt, &taken, &mut self.group)? else {
             return Ok(false);
         };
-        let flushed = self.written.flush(&keeper.ledger, &self.group, reached);
+        let flushed = self
+            .written
+            .flush(&keeper.ledger, &keeper.rounds, &self.group, reached);
         self.group.clear();
         flushed?;
         keeper.wake_waiting(rt);
@@ -234,7 +248,10 @@ impl<K: LogName, L: Log> Flusher<K, L> {
         keeper: &CommitLog<K, L, S>,
     ) -> Result<SyncedLog<K, L>, FlushFault> {
         match self.written.into_log() {
-            Ok(ended) => Ok(ended),
+            Ok(ended) => {
+                keeper.end_rounds(rt);
+                Ok(ended)
+            }
             Err(fault) => {
                 keeper.fail(rt);
                 Err(fault.into())

@@ -13,6 +13,7 @@ mod history;
 pub mod laws;
 mod own_records;
 mod reserved_space;
+mod rounds;
 mod space;
 mod sync_wait;
 
@@ -20,8 +21,9 @@ pub use backlog::{Reservation, Reservations, ReserveFault};
 pub use ballast::Ballast;
 pub use commit_log::{CommitFault, CommitLog, open};
 pub use decisions::{
-    LEAST_BYTES, MOST_BYTES, MOST_BYTES_OF_ONE, MOST_CLIENTS, MOST_TEXTS, MOST_TEXTS_OF_ONE,
-    ResponseTiming, Round, Usage, may_reserve, may_respond, next_round,
+    Confirmation, LEAST_BYTES, MOST_BYTES, MOST_BYTES_OF_ONE, MOST_CLIENTS, MOST_TEXTS,
+    MOST_TEXTS_OF_ONE, ResponseTiming, Round, Usage, confirmed_after, is_confirmed, may_reserve,
+    may_respond, next_round,
 };
 pub use failure::LogFailure;
 pub use flusher::{FlushFault, Flusher, SyncedLog};

@@ -12,8 +12,8 @@ use crate::host::{SendLog, SendSpace, ServerHost};
 use crate::listening::BoundListener;
 use cli_journal::{ExitCause, operator_names_in};
 use journal_commit::{
-    CommitLog, FlushFault, Flusher, LogName, LogPosition, SharedLogName, Space, SyncedLog,
-    UnnamedHistory, open,
+    CommitLog, Confirmation, FlushFault, Flusher, LogName, LogPosition, SharedLogName, Space,
+    SyncedLog, UnnamedHistory, open,
 };
 use journal_file::Log;
 use mds_parallel::Chunked;
@@ -163,7 +163,14 @@ where
     let alloc = rt.alloc();
     count_vehicles(rt, &hall, stage.board.counters)?;
     let clients = stage.queues.clients();
-    let (keeper, flusher, nothing) = open::<N, L, S>(alloc, history, log, space, clients)?;
+    let (keeper, flusher, nothing) = open::<N, L, S>(
+        alloc,
+        history,
+        log,
+        space,
+        clients,
+        Confirmation::NotNeeded,
+    )?;
     let Ok(keeper) = Arc::new(alloc, keeper) else {
         return Err(ExitCause::NoMemory);
     };

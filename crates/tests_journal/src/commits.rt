@@ -2,12 +2,13 @@
 ghost use Rattle.std.specs.Prelude.{◌≡◌, ℕ, List, []};
 ghost use Rattle.tests_journal.specs.declared.commits.TheConstants.{AUTHOR};
 
-use crate::runtime::{JoinRuntime, TestRuntime};
+use crate::runtime::{JoinRuntime, TestRuntime, WaitingRuntime};
+use futures::FutureExt;
 use futures::executor::block_on;
 use journal_commit::{
-    AwaitSync, CommitFault, CommitLog, CountedSpace, FlushFault, LogName, LogPosition,
-    MOST_TEXTS_OF_ONE, OwnRecords, ReserveFault, ResponseTiming, SharedLogName, UnnamedHistory,
-    Usage, open,
+    AwaitSync, CommitFault, CommitLog, Confirmation, CountedSpace, FlushFault, LogName,
+    LogPosition, MOST_TEXTS_OF_ONE, OwnRecords, ReserveFault, ResponseTiming, SharedLogName,
+    UnnamedHistory, Usage, open,
 };
 use journal_file::{AppendFault, Journal, Log, MemoryStorage};
 use std::alloc::{AllocError, AllocGlobal, Global};
@@ -110,11 +111,21 @@ fn publish<K: LogName, L: Log, R: JoinRuntime>(
     }
 }
 
+/// A response that shows no record.
+fn read<K: LogName, L: Log>(
+    keeper: &Arc<CommitLog<K, L, CountedSpace>>,
+    nothing: &LogPosition<K, L>,
+) -> Result<AwaitSync<u32, K, L, CountedSpace>, AllocError> {
+    Ok(AwaitSync::new(Arc::try_clone(keeper)?, nothing.again(), 7u32))
+}
+
 /// What a client was answered.
 #[derive(Drop)]
 struct ClientReplies {
     reply: Result<u32, CommitFault>,
     published: Option<u64>,
+    /// What it was answered behind that to a request that shows no record.
+    read: Result<u32, CommitFault>,
     /// Whether its whole share of the log is free then.
     is_free: bool,
 }
@@ -123,11 +134,13 @@ fn client_replies<K: LogName, L: Log, R: JoinRuntime>(
     rt: &R,
     keeper: &Arc<CommitLog<K, L, CountedSpace>>,
     client: SoleClient<K, L>,
+    nothing: &LogPosition<K, L>,
 ) -> Result<ClientReplies, Fail> {
     let mut client = client;
     Ok(ClientReplies {
         reply: reply_once_synced(rt, keeper, &mut client, b"one")?,
         published: publish(rt, keeper, &mut client, b"two")?,
+        read: block_on(rt, read(keeper, nothing)?)?,
         is_free: keeper.has_share(
             rt,
             AUTHOR,
@@ -144,6 +157,7 @@ fn serve_client<K, L, R>(
     rt: &R,
     opened: UnnamedHistory<L>,
     log: L,
+    confirmation: Confirmation,
 ) -> Result<(Result<L, FlushFault>, ClientReplies), Fail>
 where
     K: SharedLogName,
@@ -163,6 +177,7 @@ where
         log,
         space,
         CLIENTS,
+        confirmation,
     )?;
     let keeper = Arc::new(rt.alloc(), keeper)?;
     let client = SoleClient::new(&nothing);
@@ -170,7 +185,7 @@ where
         rt,
         || flusher.run(rt, &keeper),
         || {
-            let told = client_replies(rt, &keeper, client);
+            let told = client_replies(rt, &keeper, client, &nothing);
             keeper.stop(rt);
             told
         },
@@ -191,6 +206,7 @@ fn storage(alloc: Global, calls_left: u32) -> MemoryStorage {
 fn serve_over_journal<R: JoinRuntime>(
     rt: &R,
     calls_left: u32,
+    confirmation: Confirmation,
 ) -> Result<(Result<Journal<MemoryStorage>, FlushFault>, ClientReplies), Fail> {
     let Ok(mut log) = Journal::open(rt.alloc(), storage(rt.alloc(), calls_left)) else {
         return Err("a journal".into());
@@ -198,12 +214,12 @@ fn serve_over_journal<R: JoinRuntime>(
     let Ok(opened) = UnnamedHistory::new(&mut log) else {
         return Err("a history".into());
     };
-    serve_client::<Brand, Journal<MemoryStorage>, R>(rt, opened, log)
+    serve_client::<Brand, Journal<MemoryStorage>, R>(rt, opened, log, confirmation)
 }
 
 #[test]
 fn replies_leave_once_synced(rt: HostRuntime) -> Result<(), Fail> {
-    let (log, told) = serve_over_journal(&rt, 100)?;
+    let (log, told) = serve_over_journal(&rt, 100, Confirmation::NotNeeded)?;
     assert!(rt; told.reply == Ok(7) && told.published == Some(2) && told.is_free);
     let medium = log.ok().ok_or("a log")?.into_storage();
     assert!(rt; medium.is_synced);
@@ -213,8 +229,18 @@ fn replies_leave_once_synced(rt: HostRuntime) -> Result<(), Fail> {
 }
 
 #[test]
+fn replies_leave_once_confirmed(rt: HostRuntime) -> Result<(), Fail> {
+    let (log, told) = serve_over_journal(&rt, 100, Confirmation::EachResponse)?;
+    assert!(rt; told.reply == Ok(7) && told.published == Some(2) && told.read == Ok(7));
+    // Rounds that confirm write nothing.
+    let medium = log.ok().ok_or("a log")?.into_storage();
+    assert!(rt; medium.is_synced && medium.bytes.len() == 118);
+    Ok(())
+}
+
+#[test]
 fn nothing_is_answered_after_a_failed_sync(rt: HostRuntime) -> Result<(), Fail> {
-    let (log, told) = serve_over_journal(&rt, 4)?;
+    let (log, told) = serve_over_journal(&rt, 4, Confirmation::NotNeeded)?;
     assert!(rt; matches!(told.reply, Err(CommitFault::Failed(_))) && told.published == None);
     assert!(rt; log.err() == Some(FlushFault::NotSynced));
     Ok(())
@@ -222,7 +248,7 @@ fn nothing_is_answered_after_a_failed_sync(rt: HostRuntime) -> Result<(), Fail> 
 
 #[test]
 fn nothing_is_answered_after_a_failed_append(rt: HostRuntime) -> Result<(), Fail> {
-    let (log, told) = serve_over_journal(&rt, 3)?;
+    let (log, told) = serve_over_journal(&rt, 3, Confirmation::NotNeeded)?;
     assert!(rt; matches!(told.reply, Err(CommitFault::Failed(_))) && told.published == None);
     assert!(rt; log.err() == Some(FlushFault::NotAppended(AppendFault::Unknown)));
     Ok(())
@@ -260,8 +286,9 @@ fn expect_bounds<K: LogName, L: Log, R: TestRuntime>(
         log,
         space,
         CLIENTS,
+        Confirmation::NotNeeded,
     )?;
-    assert!(rt; keeper.may_respond(&nothing) == ResponseTiming::Now && nothing.len() == 0);
+    assert!(rt; keeper.may_respond(&nothing, None) == ResponseTiming::Now && nothing.len() == 0);
     expect_fault(rt, &keeper, AUTHOR, b"", Some(ReserveFault::Untaken));
     let no_room = Some(ReserveFault::NoRoom);
     expect_fault(rt, &keeper, AUTHOR, b"four", no_room);
@@ -275,7 +302,7 @@ fn expect_bounds<K: LogName, L: Log, R: TestRuntime>(
         .append(rt, &mut client.own, place)
         .ok()
         .ok_or("a stamp")?;
-    assert!(rt; keeper.may_respond(&stamp) == ResponseTiming::Later && stamp.len() == 1);
+    assert!(rt; keeper.may_respond(&stamp, None) == ResponseTiming::Later && stamp.len() == 1);
     // What reads shows it too, and waits for it.
     assert!(rt; keeper.log_position(&nothing).len() == 1);
     keeper.stop(rt);
@@ -329,6 +356,7 @@ fn expect_settlement<K: LogName, L: Log, R: TestRuntime>(
         log,
         space,
         CLIENTS,
+        Confirmation::NotNeeded,
     )?;
     assert!(rt;
         reserve_all_fault(rt, &keeper, AUTHOR, texts(rt, 3)?) == Some(ReserveFault::NoRoom)
@@ -441,6 +469,7 @@ fn expect_shares<K: LogName, L: Log, R: TestRuntime>(
         log,
         space,
         CLIENTS,
+        Confirmation::NotNeeded,
     )?;
     let mut sole = SoleClient::new(&nothing);
     let sole = &mut sole;
@@ -457,5 +486,104 @@ fn expect_shares<K: LogName, L: Log, R: TestRuntime>(
     expect_fault(rt, &keeper, 5, b"one", None);
     expect_waiting(rt, &keeper, sole, 5, 1, None);
     expect_fault(rt, &keeper, 5, b"one", crowded);
+    Ok(())
+}
+
+/// What became of responses that show no record.
+#[derive(Drop)]
+struct ReadOutcome<L: Log> {
+    /// Whether each of two that were made before any round left at its first look.
+    left: [bool; 2],
+    /// When one that was made then may leave behind the flusher's end.
+    earlier: ResponseTiming,
+    /// What one is answered that is made behind the flusher's end.
+    later: Result<u32, CommitFault>,
+    log: Result<L, FlushFault>,
+}
+
+/// Has two responses look once, stops the log, and runs its flusher to the end, all on one thread.
+fn read_twice<K: LogName, L: Log, R: WaitingRuntime>(
+    rt: &R,
+    opened: UnnamedHistory<L>,
+    log: L,
+    confirmation: Confirmation,
+) -> Result<ReadOutcome<L>, Fail>
+    requires book { opened.seen.book ≡ K.book }
+    requires listed { (first : List (List ℕ)) × L.may_be log first }
+{
+    let space = CountedSpace { left: 0, aside: 0 };
+    let (keeper, flusher, nothing) = open::<K, L, CountedSpace>(
+        rt.alloc(),
+        opened,
+        log,
+        space,
+        CLIENTS,
+        confirmation,
+    )?;
+    let keeper = Arc::new(rt.alloc(), keeper)?;
+    let after = keeper.confirmed_after();
+    let first = read(&keeper, &nothing)?;
+    let second = read(&keeper, &nothing)?;
+    let left = [
+        first.now_or_never(rt)? == Some(Ok(7)),
+        second.now_or_never(rt)? == Some(Ok(7)),
+    ];
+    keeper.stop(rt);
+    let log = flusher.run(rt, &keeper).map(|ended| ended.into_log());
+    Ok(ReadOutcome {
+        left,
+        earlier: keeper.may_respond(&nothing, after),
+        later: block_on(rt, read(&keeper, &nothing)?)?,
+        log,
+    })
+}
+
+fn read_over_journal<R: WaitingRuntime>(
+    rt: &R,
+    calls_left: u32,
+    confirmation: Confirmation,
+) -> Result<ReadOutcome<Journal<MemoryStorage>>, Fail> {
+    let Ok(mut log) = Journal::open(rt.alloc(), storage(rt.alloc(), calls_left)) else {
+        return Err("a journal".into());
+    };
+    let Ok(opened) = UnnamedHistory::new(&mut log) else {
+        return Err("a history".into());
+    };
+    read_twice::<Brand, Journal<MemoryStorage>, R>(rt, opened, log, confirmation)
+}
+
+/// How many calls a log's storage has left.
+fn calls_left(log: Result<Journal<MemoryStorage>, FlushFault>) -> Option<u32> {
+    log.ok().map(|log| log.into_storage().calls_left)
+}
+
+#[test]
+fn reads_of_a_file_need_no_sync(rt: HostRuntime) -> Result<(), Fail> {
+    let told = read_over_journal(&rt, 10, Confirmation::NotNeeded)?;
+    assert!(rt; told.left == [true, true]);
+    assert!(rt; told.earlier == ResponseTiming::Now && told.later == Ok(7));
+    // Three calls began to serve, and one ended it.
+    assert!(rt; calls_left(told.log) == Some(6));
+    Ok(())
+}
+
+#[test]
+fn one_round_confirms_all_that_wait(rt: HostRuntime) -> Result<(), Fail> {
+    let told = read_over_journal(&rt, 10, Confirmation::EachResponse)?;
+    assert!(rt; told.left == [false, false] && told.earlier == ResponseTiming::Now);
+    // The round was over when it was made, and none comes behind the flusher's end.
+    assert!(rt; matches!(told.later, Err(CommitFault::Failed(_))));
+    // One call more is the round's.
+    assert!(rt; calls_left(told.log) == Some(5));
+    Ok(())
+}
+
+#[test]
+fn nothing_is_answered_after_a_failed_round(rt: HostRuntime) -> Result<(), Fail> {
+    let told = read_over_journal(&rt, 3, Confirmation::EachResponse)?;
+    assert!(rt; told.left == [false, false]);
+    assert!(rt; matches!(told.earlier, ResponseTiming::Never(_)));
+    assert!(rt; matches!(told.later, Err(CommitFault::Failed(_))));
+    assert!(rt; told.log.err() == Some(FlushFault::NotSynced));
     Ok(())
 }
