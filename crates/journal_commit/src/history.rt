@@ -1,6 +1,6 @@
 //! The history of what is appended, and of what of it is synced. It exists in the proofs alone: what threads share are
 //! two atomic words, how many payloads were appended, and how many of these are synced.
-ghost use Rattle.std.specs.Prelude.{◌≡◌, ◌+◌, ◌<◌, ◌≤◌, ◌^◌, ◌++◌, ◌∷◌, ℕ, List, [], length, take, IfOk, MatchBool, OnOk, true};
+ghost use Rattle.std.specs.Prelude.{◌≡◌, ◌==◌, ◌+◌, ◌<◌, ◌≤◌, ◌^◌, ◌++◌, ◌∷◌, ℕ, List, [], length, take, IfOk, MatchBool, OnOk, true};
 ghost use mathlib.Core.List.{IsPrefix};
 ghost use Rattle.journal_commit.specs.History.{AreSynced, appended_of, synced_of};
 
@@ -271,9 +271,10 @@ impl<K: LogName, L: Log> LogPosition<K, L> {
         }
     }
 
-    /// Whether both have the same payloads.
+    /// Whether both have the same payloads, which they have where they have as many.
     pub fn is_of(&self, other: &LogPosition<K, L>) -> bool
-        ensures { result ≡ true → self.now ≡ other.now }
+        ensures same { result ≡ true → self.now ≡ other.now }
+        ensures counted { result ≡ (length self.now == length other.now) }
     {
         let mut both = self.seen.again();
         both.learn(&other.seen);
