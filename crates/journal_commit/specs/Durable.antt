@@ -8,10 +8,6 @@ module _ {L : Type 0} (may_be : L → List (List ℕ) → Type 0) (is_synced : L
   abbrev pub AreDurable : List (List ℕ) → Type 0
   AreDurable texts = (synced : List (List ℕ)) × IsPrefix texts synced × AreSynced may_be is_synced synced
 
-  -- the log may hold a list that ends with these payloads
-  abbrev pub EndsWith : L → List (List ℕ) → Type 0
-  EndsWith log texts = (first : List (List ℕ)) × may_be log (first ++ texts)
-
 -- the payloads end with this one
 abbrev pub IsLast : List ℕ → List (List ℕ) → Type 0
 IsLast text texts = (before : List (List ℕ)) × (texts ≡ before ++ text ∷ [])

@@ -1,5 +1,5 @@
 //! The commit log that all desks and the room share: it appends their records, and says when a response may leave.
-ghost use Rattle.std.specs.Prelude.{◌≡◌, ◌++◌, ◌∷◌, ◌≤◌, [], map, ℕ, List, None, true, IfOk, IfNone, IfSome, OnOk, OnErr, vec_capacity};
+ghost use Rattle.std.specs.Prelude.{◌≡◌, ◌++◌, ◌∷◌, ◌≤◌, [], map, None, true, IfOk, IfNone, IfSome, OnOk, OnErr, vec_capacity};
 ghost use mathlib.Core.List.{IsPrefix};
 ghost use Rattle.journal_commit.specs.Clients.{AreOf, GoesOnBy};
 ghost use Rattle.journal_commit.specs.Durable.{AreDurable, AreLast, IsLast, chosen};
@@ -71,7 +71,7 @@ pub fn open<K: LogName, L: Log, S: Space>(
     confirmation: Confirmation,
 ) -> Result<(CommitLog<K, L, S>, Flusher<K, L>, LogPosition<K, L>), AllocError>
     requires book { opened.seen.book ≡ K.book }
-    requires listed { (first : List (List ℕ)) × L.may_be log first }
+    requires listed { L.may_be log K.first }
     requires space { S.aside space ≡ 0 }
     ensures { IfOk result (λ all. all.2 ≡ []) }
 {

@@ -1,6 +1,5 @@
 //! The flusher: one thread that writes and syncs for all that wait.
-ghost use Rattle.std.specs.Prelude.{◌≡◌, ◌++◌, ◌≤◌, [], map, ℕ, List, IfOk, OnOk, vec_capacity, vec_len};
-ghost use Rattle.journal_commit.specs.Durable.{AreDurable, EndsWith};
+ghost use Rattle.std.specs.Prelude.{◌≡◌, ◌++◌, ◌≤◌, [], map, IfOk, OnOk, vec_capacity, vec_len};
 ghost use Rattle.journal_commit.specs.History.{AreSynced};
 ghost use Rattle.journal_commit.specs.declared.decisions.TheConstants.{MOST_TEXTS};
 
@@ -37,7 +36,8 @@ impl From<SyncFault> for FlushFault {
     }
 }
 
-/// A log, and what was appended to it since it was opened. Contracts see these payloads.
+/// A log, and what was appended to it since it was opened. Contracts see these payloads: the log may be what it had then,
+/// with these behind.
 #[derive(Drop)]
 struct FlushedLog<K: LogName, L: Log> {
     log: L,
@@ -51,9 +51,8 @@ struct FlushedLog<K: LogName, L: Log> {
 }
 
 impl<K: LogName, L: Log> Model for FlushedLog<K, L> {
-    ghost use Rattle.std.specs.Prelude.{ℕ, List};
+    ghost use Rattle.std.specs.Prelude.{ℕ, List, ◌++◌};
     ghost use Rattle.journal_commit.specs.Codes.{coded_texts};
-    ghost use Rattle.journal_commit.specs.Durable.{EndsWith};
 
     ghost Value = { List (List ℕ) };
 
@@ -61,10 +60,11 @@ impl<K: LogName, L: Log> Model for FlushedLog<K, L> {
 
     ghost view = { λ w. w.taken };
 
-    ghost invariant = { λ w. EndsWith L.may_be L.is_synced w.log w.taken };
+    ghost invariant = { λ w. L.may_be w.log (K.first ++ w.taken) };
 }
 
-/// A log behind its last append. It is synced, and the list that it may be ends with the payloads that contracts see.
+/// A log behind its last append. It is synced, and it may be what it had when it was opened, with the payloads behind
+/// that contracts see.
 #[derive(Drop)]
 pub struct SyncedLog<K: LogName, L: Log> {
     log: L,
@@ -72,9 +72,8 @@ pub struct SyncedLog<K: LogName, L: Log> {
 }
 
 impl<K: LogName, L: Log> Model for SyncedLog<K, L> {
-    ghost use Rattle.std.specs.Prelude.{ℕ, List};
+    ghost use Rattle.std.specs.Prelude.{ℕ, List, ◌++◌};
     ghost use Rattle.journal_commit.specs.Codes.{coded_texts};
-    ghost use Rattle.journal_commit.specs.Durable.{EndsWith};
 
     ghost Value = { List (List ℕ) };
 
@@ -82,7 +81,7 @@ impl<K: LogName, L: Log> Model for SyncedLog<K, L> {
 
     ghost view = { λ ended. ended.position };
 
-    ghost invariant = { λ ended. L.is_synced ended.log × EndsWith L.may_be L.is_synced ended.log ended.position };
+    ghost invariant = { λ ended. L.is_synced ended.log × L.may_be ended.log (K.first ++ ended.position) };
 }
 
 impl<K: LogName, L: Log> SyncedLog<K, L> {
@@ -96,7 +95,7 @@ impl<K: LogName, L: Log> SyncedLog<K, L> {
     /// The log itself.
     pub fn into_log(self) -> L
         ensures synced { L.is_synced result }
-        ensures ends { EndsWith L.may_be L.is_synced result self }
+        ensures whole { L.may_be result (K.first ++ self) }
     {
         self.log
     }
@@ -182,7 +181,7 @@ impl<K: LogName, L: Log> Flusher<K, L> {
         nothing: &LogPosition<K, L>,
     ) -> Result<Flusher<K, L>, AllocError>
         requires nothing { nothing.now ≡ [] }
-        requires listed { (first : List (List ℕ)) × L.may_be log first }
+        requires listed { L.may_be log K.first }
     {
         Ok(Flusher {
             written: FlushedLog {

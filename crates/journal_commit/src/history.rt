@@ -1,6 +1,6 @@
 //! The history of what is appended, and of what of it is synced. It exists in the proofs alone: what threads share are
 //! two atomic words, how many payloads were appended, and how many of these are synced.
-ghost use Rattle.std.specs.Prelude.{◌≡◌, ◌+◌, ◌<◌, ◌≤◌, ◌^◌, ◌++◌, ◌∷◌, ℕ, List, [], length, take, IfOk, MatchBool, OnOk, true};
+ghost use Rattle.std.specs.Prelude.{◌≡◌, ◌==◌, ◌+◌, ◌<◌, ◌≤◌, ◌^◌, ◌++◌, ◌∷◌, ℕ, List, [], length, take, IfOk, MatchBool, OnOk, true};
 ghost use mathlib.Core.List.{IsPrefix};
 ghost use Rattle.journal_commit.specs.History.{AreSynced, appended_of, synced_of};
 
@@ -112,8 +112,8 @@ impl<L: Log> Play<Text, u64> for ReadSyncedStep<L> {
 }
 
 /// Names one opened log in the proofs. A program passes what it opens to a function that is generic over the name, and
-/// calls it with `Brand`; the proof of that call picks the book of what was opened, and the number of the client of each
-/// payload.
+/// calls it with `Brand`; the proof of that call picks the book of what was opened, the number of the client of each
+/// payload, and the payloads that the log had when it was opened.
 pub trait LogName {
     ghost use Rattle.std.specs.Prelude.{ℕ, List};
     ghost use Rattle.logbook.specs.Pages.{Book};
@@ -121,6 +121,8 @@ pub trait LogName {
     ghost book: { Book };
 
     ghost client_of: { List ℕ → ℕ };
+
+    ghost first: { List (List ℕ) };
 }
 
 /// The name of a log that several threads have. `Brand` alone has it, so that the proof of a call with `Brand` can pick
@@ -133,6 +135,8 @@ impl LogName for Brand {
     ghost book = { record { number = 0; log_name = 0; cells_name = 0 } };
 
     ghost client_of = { λ text. 0 };
+
+    ghost first = { [] };
 }
 
 /// An empty history, which has no name yet.
@@ -267,9 +271,10 @@ impl<K: LogName, L: Log> LogPosition<K, L> {
         }
     }
 
-    /// Whether both have the same payloads.
+    /// Whether both have the same payloads, which they have where they have as many.
     pub fn is_of(&self, other: &LogPosition<K, L>) -> bool
-        ensures { result ≡ true → self.now ≡ other.now }
+        ensures same { result ≡ true → self.now ≡ other.now }
+        ensures counted { result ≡ (length self.now == length other.now) }
     {
         let mut both = self.seen.again();
         both.learn(&other.seen);

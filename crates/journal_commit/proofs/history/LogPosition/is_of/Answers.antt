@@ -3,8 +3,8 @@ use mathlib.Core.List.{IsPrefix}
 use Rattle.journal_commit.proofs.Fronts.{one_front}
 use Rattle.journal_commit.proofs.history.LogPosition.is_of.Goals as goal
 
-pub returns : goal.returns
-returns g c = λ is.
+pub returns-clause-same : goal.returns-clause-same
+returns-clause-same g c = λ is.
     let both = c.learn.new.self.log in
     let mine = c.self.inside in
     let theirs = c.other.inside in
