@@ -102,7 +102,7 @@ class Commands:
         return started.returncode, used.ru_utime + used.ru_stime
 
     def end(self):
-        """Tells all that still run to end, and lets nothing more begin. A command itself ends what it started, which it alone is to tell."""
+        """Tells all that still run to end, and lets nothing more begin. A command ends by itself what it started."""
         with self.changing:
             self.is_over = True
             for it in self.groups:
@@ -125,8 +125,8 @@ def kill(group):
 
 
 def run(words, env=None, is_live=False):
-    """Runs a command with these variables beside the environment's. What it printed is told with its standard error in front; of a live one
-    all is printed as it comes, and its standard error isn't told."""
+    """Runs a command with these variables beside the environment's. What it printed is told with its standard error in front; of a live
+    one all is printed as it comes, and its standard error isn't told."""
     how = {"env": {**os.environ, **(env or {})}}
     with tempfile.TemporaryFile() as wrote, tempfile.TemporaryFile() as said:
         streams = {"stdout": subprocess.PIPE} if is_live else {"stdout": wrote, "stderr": said}
@@ -212,8 +212,8 @@ def end_all(threads):
 
 
 def end_by_signals():
-    """Lets the program end by way of end_all however it is told to. What it is to ignore, as behind nohup, it ignores, but the commands that
-    it starts don't, since they are told by it alone."""
+    """Lets the program end by way of end_all however it is told to. What it is to ignore, as behind nohup, it ignores, but the commands
+    that it starts don't, since they are told by it alone."""
     for number in (signal.SIGINT, signal.SIGTERM, signal.SIGHUP):
         is_heeded = signal.getsignal(number) != signal.SIG_IGN
         signal.signal(number, (lambda told, _: sys.exit(128 + told)) if is_heeded else (lambda *_: None))
