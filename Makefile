@@ -57,7 +57,7 @@ test:
 
 prove:
 	@echo "make prove takes $(PROVE_TIME). Each crate prints its lines once it is proved."
-	@bash tests/gate
+	@python3 -B tests/gate.py
 
 edits:
 	@echo "make edits takes $(EDITS_TIME) over what make prove built. It is part of a release, not of the gate."

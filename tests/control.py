@@ -27,7 +27,7 @@ import time
 
 import packages
 from kept import END_SECONDS, TELLS_EVERYONE, Tried, ended
-from wire import AUTHOR, PATIENCE, SECONDS, Link, Server, configuration, first_line, free_port
+from wire import AUTHOR, SECONDS, SLOWNESS, Link, Server, configuration, first_line, free_port
 
 # http.py, beside this file, hides the library's package of that name.
 PLACES, HERE = sys.path[:], os.path.dirname(os.path.abspath(__file__))
@@ -37,11 +37,11 @@ import http.server  # noqa: E402
 sys.path[:] = PLACES
 
 # Within how long the health is told beside connections that say nothing, how often that is asked, and how many may take longer.
-AT_MOST, ASKED, LATE_ONES = 0.100 * PATIENCE, 20, 1
+AT_MOST, ASKED, LATE_ONES = 0.100 * SLOWNESS, 20, 1
 # How long a head may take, and by how much the port may be late to see it.
-HEAD_SECONDS, LATE = 5, 2 * PATIENCE
+HEAD_SECONDS, LATE = 5, 2 * SLOWNESS
 # What is answered at once doesn't wait for a deadline.
-AT_ONCE = 2 * PATIENCE
+AT_ONCE = 2 * SLOWNESS
 LOCAL, EVERYWHERE, SOCKET = "127.0.0.1:{port}", "0.0.0.0:{port}", "unix:{room}/control"
 NAME = "control.city.example"
 HEALTHY, MALFORMED, FORBIDDEN = (200, b"ok\n"), (400, b"bad request\n"), (403, b"forbidden\n")
@@ -145,7 +145,7 @@ class Controlled(Server):
         self.ended = self.process.returncode, out, err
         if self.ended != (0, b"", b""):
             yield f"stopped, it ends with {self.ended}"
-        if (took := time.monotonic() - begun) > HEAD_SECONDS * PATIENCE:
+        if (took := time.monotonic() - begun) > HEAD_SECONDS * SLOWNESS:
             yield f"it takes {took:.1f} s to stop"
 
 

@@ -27,10 +27,10 @@ import time
 import uuid
 
 from kept import END_SECONDS, Alone, ended, tried
-from wire import AUTHOR, FIRST, PATIENCE, SECONDS, free_port
+from wire import AUTHOR, FIRST, SECONDS, SLOWNESS, free_port
 
 LONG = 10_000_000  # bytes of a long file
-MANY = 5_000 if PATIENCE == 1 else 200  # vehicles of a feed, in more than one request
+MANY = 5_000 if SLOWNESS == 1 else 200  # vehicles of a feed, in more than one request
 NAMES = ("Altstadt", "Nördlicher Hafen")  # of places in GeoJSON
 NO_LENGTH = "the server answers with a content-length that is none"
 NO_LENGTHS = (  # fields of a head, each of which says it of a body
@@ -218,7 +218,7 @@ def hostile(program):
         status, out, err = room.policies(server, room.file("wide.json", wide))
         expect((status, out) == (9, "0 documents sent, 1 refused\n"), f"wide: {status} {out} {err}")
         expect("it has more than 1048576 bytes" in err, err)
-        if PATIENCE == 1:
+        if SLOWNESS == 1:
             status, out, err = room.policies(server, room.file("long.json", {"geographies": many}))
             expect(status == 9 and "1024 documents stand before it" in err, f"long: {status} {out} {err[:300]}")
     yield from ()
@@ -589,7 +589,7 @@ def files_that_never_end(program):
                 found = room.run("import", kind, path, "--dry-run")
                 said = f"{path}: it isn't a regular file\nruffletuff: something was refused\n"
                 expect(found == (9, f"0 {what_is_sent} would be sent, 1 refused\n", said), f"{kind}, {path}: {found}")
-                expect(time.monotonic() - since < SECONDS, f"{kind}, {path}: it waited")
+                expect(time.monotonic() - since < 10 * SLOWNESS, f"{kind}, {path}: it waited")
         piped = subprocess.run([program, "import", "policies", "/dev/stdin", "--dry-run"], input=json.dumps(place(1)).encode(),
                                capture_output=True, timeout=END_SECONDS, check=False)
         wanted = f"PUT /drafts/geographies/{number(1, 1)}\n1 documents would be sent, 0 refused\n".encode()

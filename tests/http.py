@@ -1,14 +1,15 @@
 #!/usr/bin/env python3
 """Tries a built mds_serve or ruffletuff over loopback, by raw sockets: good requests, broken ones and hostile ones.
 
-    http.py PROGRAM [messages | exchanges | loads | short-loads]
+    http.py PROGRAM [messages | untimed | timed | exchanges | loads | short-loads]
 
 What is accepted as an answer stands in the protocol, and where a message is no HTTP in RFC 9110 and 9112: where these leave a
 choice, each of its sides is accepted. After each broken or hostile message the next request on a new connection is answered as if
 it hadn't come. The scripts of tests/replays are run too, those whose answers don't depend on when a request comes; the others are
-named. Then come the loads of tests/load.py, one after another. With a second word one of both is done, or of the messages those that
-wait for no deadline and no script, or the short ones of the loads, side by side. A server that keeps its state has a folder of its own
-for each run, and isn't asked long questions; how it ends tests/journals.py tries. The messages take about 80 seconds, since the
+named. Then come the loads of tests/load.py, one after another. With a second word one of both is done; or of the messages those that may
+run beside other work (`untimed`), those of which it is judged how soon they are answered, or by how many threads (`timed`), or those that
+wait for no deadline and no script (`exchanges`); or the short ones of the loads, side by side. A server that keeps its state has a folder
+of its own for each run, and isn't asked long questions; how it ends tests/journals.py tries. The messages take about 80 seconds, since the
 deadlines are waited for, the loads some four minutes, the short ones up to 90 seconds. Prints what differs, and last 'N passed, M
 failed'; ends with 1 where one failed.
 """
@@ -31,12 +32,13 @@ from ends import ENDS, TOLD_AT_ONCE, an_address_that_is_taken, an_end, is_refuse
 from kept import City, Tried, is_keeping, serving
 from messages import BODIES, BODY_LIMIT, CLOSE, HEADS, METHOD, NEW, NO_POLICY, NO_ROUTE, REPORT, TOKEN, TOO_LARGE
 from messages import chunked, code, head, sized
-from wire import AUTHOR, FIRST, PATIENCE, SECOND, SECONDS, Answer, Closed, identifier, report, request
+from wire import AUTHOR, FIRST, SECOND, SECONDS, SLOWNESS, Answer, Closed, identifier, report, request
 
 HERE = os.path.dirname(os.path.abspath(__file__))
 
 HEAD_SECONDS, BODY_SECONDS, IDLE_SECONDS = 10, 30, 60
 EARLY, LATE = 2, 10  # how far from its deadline a connection may be closed, on a busy machine
+AT_MOST = 10 * SLOWNESS  # seconds, for which another client may wait beside one that is slow
 
 
 def told(server, sent, may_close):
@@ -144,7 +146,7 @@ def two_at_once(server):
             yield from (f"answered {it}" for it in answers if not it.is_by_the_server(*NO_POLICY))
     # A new connection is acknowledged at once for a while.
     median = statistics.median(taken[20:])
-    if median > 0.03 * PATIENCE:
+    if median > 0.03 * SLOWNESS:
         yield f"two requests at once take {1000 * median:.0f} ms"
 
 
@@ -209,7 +211,7 @@ def who_never_reads(server):
         for token in (FIRST, SECOND, AUTHOR) * 10:
             begun = time.monotonic()
             answer = server.ask("GET", "/policies", token)
-            if not answer.is_by_the_server(200, b'{"policies":[],"revision":1}') or time.monotonic() - begun > SECONDS:
+            if not answer.is_by_the_server(200, b'{"policies":[],"revision":1}') or time.monotonic() - begun > AT_MOST:
                 yield f"{token} is answered {answer} after {time.monotonic() - begun:.1f} s"
 
 
@@ -229,14 +231,14 @@ def what_makes_questions_long(server):
 
     Fewer of each make questions long enough where the program isn't proved.
     """
-    rings, corners, count = {}, 15_000 // PATIENCE, 64 // PATIENCE
+    rings, corners, count = {}, 15_000 // SLOWNESS, 64 // SLOWNESS
     for number in range(16):
         positions = [on_a_circle(it / corners, number * 1e-6) for it in range(corners)]
         rings[identifier(1, number)] = ",".join(f"[{lng:.7f},{lat:.7f}]" for lng, lat in [*positions, positions[0]])
     for name, ring in rings.items():
         text = f'{{"geography_id":"{name}","name":"g","geography_json":{{"type":"Polygon","coordinates":[[{ring}]]}}}}'
         yield server.ask("PUT", f"/drafts/geographies/{name}", AUTHOR, text.encode())
-    names, policies = list(rings), [identifier(2, number) for number in range(max(1, 8 // PATIENCE))]
+    names, policies = list(rings), [identifier(2, number) for number in range(max(1, 8 // SLOWNESS))]
     for number, policy in enumerate(policies):
         rules = [
             {"rule_id": identifier(3, count * number + it), "name": "r", "rule_type": "count", "maximum": 2_000}
@@ -247,7 +249,7 @@ def what_makes_questions_long(server):
         yield server.ask("PUT", f"/drafts/policies/{policy}", AUTHOR, text.encode())
     yield server.ask("POST", "/publish", AUTHOR, json.dumps({"geographies": names, "policies": policies}).encode())
     with server.link() as link:
-        for number in range(2_000 // PATIENCE):
+        for number in range(2_000 // SLOWNESS):
             lng, lat = on_a_circle(number * 0.2705628)
             text = report(number).replace(b'{"lat":5,"lng":5}', f'{{"lat":{lat:.7f},"lng":{lng:.7f}}}'.encode())
             link.send(request("POST", "/fleet/events", body=text))
@@ -343,12 +345,12 @@ def a_question_by_threads(server):
         return
     yield from a_policy_of_64_rules(server)
     at_rest = len(os.listdir(f"/proc/{server.process.pid}/task"))
-    few, many = 1_000 // PATIENCE, 40_000 // PATIENCE
+    few, many = 1_000 // SLOWNESS, 40_000 // SLOWNESS
     with server.link() as link:
         for numbers, wanted in ((range(few), False), (range(few, many), True)):
             yield from reported(link, numbers)
             asked = []
-            for _ in range(max(3, 20 // PATIENCE)):
+            for _ in range(max(3, 20 // SLOWNESS)):
                 # Behind more than 64 devices that went and came nothing of the fleet lies ready.
                 for it in numbers[:33]:
                     server.ask("DELETE", f"/fleet/vehicles/{identifier(4, it)}")
@@ -360,7 +362,7 @@ def a_question_by_threads(server):
             if (most > at_rest) != wanted:
                 yield f"over {numbers.stop} vehicles the server has {most} threads, and {at_rest} at rest"
             # The second question behind so many makes what further ones go by.
-            again = [most_threads(server, link)[1] for _ in range(1 + max(3, 20 // PATIENCE))]
+            again = [most_threads(server, link)[1] for _ in range(1 + max(3, 20 // SLOWNESS))]
             if max(again) > at_rest:
                 yield f"over {numbers.stop} vehicles a question that was asked before starts threads"
 
@@ -383,7 +385,7 @@ def the_slow_and_the_others(server, patience):
     with ThreadPoolExecutor(50) as pool:
         for found in pool.map(asks, range(50)):
             yield from found[:1]
-    if time.monotonic() - begun > 2 * SECONDS:
+    if time.monotonic() - begun > 2 * AT_MOST:
         yield f"50 others waited for {time.monotonic() - begun:.1f} s"
 
 
@@ -610,7 +612,7 @@ def messages(tried, server, left_out=()):
     for name, (sent, accepted) in (HEADS | BODIES).items():
         if name not in left_out:
             tried.one(name, first_on_a_connection(server, sent, accepted))
-    cases = (many_on_one_connection, a_thousand_at_once, two_at_once, a_head_without_a_body, a_body_that_is_awaited, gone_without_a_word)
+    cases = (many_on_one_connection, a_thousand_at_once, a_head_without_a_body, a_body_that_is_awaited, gone_without_a_word)
     for case in (*cases, *CLOSINGS):
         tried.one(case.__name__, case(server))
 
@@ -638,10 +640,9 @@ def ends(tried, program):
         tried.one(case.__name__, case(program))
 
 
-def all_messages(tried, program, stack):
-    """All tests but the loads. The deadlines are waited for while the others run."""
-    limits = (2, 2, 200, 2_002, 40_000)
-    waited, plain, large, held, wide = (stack.enter_context(serving(program, limit=limit)) for limit in limits)
+def untimed(tried, program, stack):
+    """The messages whose answers may come late. The deadlines are waited for while the others run."""
+    waited, plain, large = (stack.enter_context(serving(program, limit=limit)) for limit in (2, 2, 200))
     patience = Patience()
     patience.start()
     tried.one("deadlines", deadlines(waited, patience))
@@ -650,17 +651,26 @@ def all_messages(tried, program, stack):
     programs(tried, program)
     tried.one("who_never_reads", who_never_reads(large))
     tried.one("a_slow_body_in_time", a_slow_body_in_time(large))
-    # Nothing of these goes by what is kept, and large fleets wait for many syncs.
-    if not is_keeping(program):
-        tried.one("long_questions", long_questions(held))
-        tried.one("a_question_by_threads", a_question_by_threads(wide))
     patience.over.set()
     patience.join()
     for name, faults in patience.faults.items():
         tried.one(name, faults)
     tried.one("as_if_nothing_had_come", as_if_nothing_had_come(waited))
-    for name, server in (("waited", waited), ("plain", plain), ("large", large), ("held", held), ("wide", wide)):
+    for name, server in (("waited", waited), ("plain", plain), ("large", large)):
         tried.one(f"still_silent, {name}", still_silent(server))
+
+
+# Of which it is judged how soon they are answered, or by how many threads: each with its server's limit. Nothing of the later ones goes by
+# what is kept, and large fleets wait for many syncs, so a server that keeps its state is asked the first one alone.
+TIMED = ((two_at_once, 2), (long_questions, 2_002), (a_question_by_threads, 40_000))
+
+
+def timed(tried, program, stack):
+    """The messages whose answers mustn't come late."""
+    for case, limit in TIMED[:1] if is_keeping(program) else TIMED:
+        server = stack.enter_context(serving(program, limit=limit))
+        tried.one(case.__name__, case(server))
+        tried.one(f"still_silent, {case.__name__}", still_silent(server))
 
 
 # Reading so many blanks takes a minute where the program isn't proved and the machine is busy.
@@ -671,16 +681,21 @@ def exchanges(tried, program):
     """The tests that wait for no deadline, at one server, but for those of the longest bodies."""
     with serving(program, limit=2) as server:
         messages(tried, server, (*LONG_BODIES, *by_the_page(program)))
+        tried.one("two_at_once", two_at_once(server))
         tried.one("still_silent", still_silent(server))
     print(f"left out, and tried by make prove: deadlines, slow readers and writers, long questions, {', '.join(LONG_BODIES)}")
+
+
+WORDS = ("messages", "untimed", "timed", "exchanges", "loads", "short-loads")
 
 
 def main(program, which="all"):
     tried = Tried()
     try:
-        if which in ("all", "messages"):
-            with contextlib.ExitStack() as stack:
-                all_messages(tried, program, stack)
+        for name, call in (("untimed", untimed), ("timed", timed)):
+            if which in ("all", "messages", name):
+                with contextlib.ExitStack() as stack:
+                    call(tried, program, stack)
         if which == "exchanges":
             exchanges(tried, program)
         if which in ("all", "loads", "short-loads"):
@@ -693,6 +708,6 @@ def main(program, which="all"):
 
 
 if __name__ == "__main__":
-    if len(sys.argv) not in (2, 3) or sys.argv[2:] not in ([], ["messages"], ["exchanges"], ["loads"], ["short-loads"]):
-        sys.exit("usage: http.py PROGRAM [messages | exchanges | loads | short-loads]")
+    if len(sys.argv) not in (2, 3) or sys.argv[2:] not in ([], *([it] for it in WORDS)):
+        sys.exit(f"usage: http.py PROGRAM [{' | '.join(WORDS)}]")
     sys.exit(main(os.path.abspath(sys.argv[1]), *sys.argv[2:]))

@@ -4,7 +4,7 @@ While a load lasts, another operator asks in a process of its own, at least 500 
 150 ms; the server's memory and open files are read from /proc. A load lasts at most 40 seconds. All loads are tried one after another on
 a server that has the machine for itself. The short ones, which don't wait for deadlines and are lighter, are over in some seconds each
 and are tried side by side: what another operator waits for is then told and not judged. Before a proof what another operator may wait is
-as many times as long as the environment's PATIENCE says, and a load may last longer.
+as many times as long as the environment's SLOWNESS, or PATIENCE alone, says, and a load may last longer.
 """
 
 import collections
@@ -22,10 +22,10 @@ import clients
 from beside import LEAST, Neighbour, Watch, measured, waits_too_long
 from kept import serving
 from messages import BODY_LIMIT, NO_POLICY, code
-from wire import AUTHOR, PATIENCE, SECONDS, Closed, identifier, may_open, report, request
+from wire import AUTHOR, SECONDS, SLOWNESS, Closed, identifier, may_open, report, request
 
 # How long a load lasts at most, a short one and another; and how much earlier it waits for nothing more, so that what it found is told.
-SHORT_SECONDS, MOST_SECONDS = (40, 40) if PATIENCE == 1 else (60, 120)
+SHORT_SECONDS, MOST_SECONDS = (40, 40) if SLOWNESS == 1 else (60, 120)
 TO_TELL = 4
 # How many of the short ones are tried at once: they wait more than they work.
 SIDE_BY_SIDE = 3
@@ -40,10 +40,10 @@ TELLING_SECONDS = 20
 # Connections beside those of a load: the other operator's, and those that knock.
 OTHERS = 16
 # A program that isn't proved keeps what it gives back for a while, to see whether it is used then.
-KEPT_BACK = 0 if PATIENCE == 1 else 128
+KEPT_BACK = 0 if SLOWNESS == 1 else 128
 
 OPERATORS = 12
-FLEET, LARGE_FLEET = 200 // PATIENCE, 2_000 // PATIENCE
+FLEET, LARGE_FLEET = 200 // SLOWNESS, 2_000 // SLOWNESS
 NEIGHBOUR = OPERATORS - 1
 BUSY = code(503, "busy")
 
@@ -83,7 +83,7 @@ class Load:
 
     def wanted(self):
         """How often it has to ask."""
-        return LEAST // PATIENCE if self.is_short else LEAST
+        return LEAST // SLOWNESS if self.is_short else LEAST
 
     def lasts(self, enough=lambda: True):
         """Lets the load last until the other has asked often enough, and until what else is wanted holds; whether that came."""
@@ -151,7 +151,7 @@ def under_load(program, name, kind, is_short):
         if asked < load.wanted():
             yield f"another operator is answered {asked} times meanwhile, and not {load.wanted()}"
         if times and not is_short:
-            yield from waits_too_long(times, PATIENCE)
+            yield from waits_too_long(times, SLOWNESS)
         yield from within_bounds(kind, watch)
         yield from tell(asked_afterwards(server))
         status, out, err = server.stop()
@@ -408,7 +408,7 @@ def a_small_city(server, is_short):
     square, cap = identifier(1, 1), identifier(2, 1)
     rules = ",".join(
         f'{{"rule_id":"{identifier(3, it)}","name":"r","rule_type":"count","geographies":["{square}"],"maximum":{LARGE_FLEET}}}'
-        for it in range(max(1, 8 // PATIENCE))
+        for it in range(max(1, 8 // SLOWNESS))
     )
     asked = [
         ("PUT", clients.draft_of_place(1), clients.place(1, "[[0,0],[9,0],[9,9],[0,9],[0,0]]")),
@@ -507,8 +507,8 @@ def chosen(is_short):
         left = "; ".join(name for name in LOADS if name not in names)
         print(f"no deadline is waited for, loads are lighter, and these are left out: {left}")
         print("the loads run side by side: what another operator waits for is told, and not judged")
-    elif PATIENCE > 1:
-        print(f"the program isn't proved: another operator may wait {PATIENCE} times as long")
+    elif SLOWNESS > 1:
+        print(f"the program isn't proved: another operator may wait {SLOWNESS} times as long")
     wanted = (MOST_ANONYMOUS if is_short else SEATS) + 500
     if (most := may_open(wanted)) < wanted:
         few = [name for name in names if LOADS[name].connections > 1_000]

@@ -17,13 +17,13 @@ import tempfile
 
 from journals import small_disk
 from kept import Alone, City, split, tried
-from wire import AUTHOR, FIRST, PATIENCE, SECOND, Link, configuration, report, request
+from wire import AUTHOR, FIRST, SECOND, SLOWNESS, Link, configuration, report, request
 
 PATH = "/app/fleet/events"
 ONE = "/fleet/events"
 MOST_BODY = 1_048_576
 MOST_LINES = 16_384
-MANY = 4000 if PATIENCE == 1 else 400  # a program that isn't proved is slow
+MANY = 4000 if SLOWNESS == 1 else 400  # a program that isn't proved is slow
 FULL = 393_216  # bytes of a disk that has room for a journal and for few reports
 NEW, SAME, CHANGED = b'{"result":"new"}', b'{"result":"same"}', b'{"result":"changed"}'
 

@@ -26,7 +26,7 @@ from app import expect, refused
 from clients import names, place, policy, succeed, these_policies
 from journals import REPLAY
 from kept import Alone, Tried, ended, line_of, replayed, split
-from wire import AUTHOR, FIRST, PATIENCE, SECOND, Link, identifier, report, request
+from wire import AUTHOR, FIRST, SECOND, SLOWNESS, Link, identifier, report, request
 
 THIRD, ZONE = "charlie", "Z"
 ALFA, BRAVO, CHARLIE = (identifier(0, n) for n in (0xA1, 0xB1, 0xC1))
@@ -35,9 +35,9 @@ TOKENS = {ALFA: FIRST, BRAVO: SECOND, CHARLIE: THIRD}
 RING = "[[0,0],[9,0],[9,9],[0,9],[0,0]]"
 CAP = 1  # the policy, its geography and its rule
 MOST = 2  # vehicles, that the rule allows
-ROUNDS = 60 if PATIENCE == 1 else 15
+ROUNDS = 60 if SLOWNESS == 1 else 15
 PUBLICATIONS = 6  # further ones, under load
-COMPARED = 150 if PATIENCE == 1 else 30  # of the author's answers under load, at most
+COMPARED = 150 if SLOWNESS == 1 else 30  # of the author's answers under load, at most
 MOMENT = re.compile(rb'^\{"at":\d+,')
 
 

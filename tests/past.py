@@ -30,14 +30,14 @@ from kept import Alone, City, Tried, ended, exchanging, replayed, split
 from oversight import ALFA, BRAVO, CHARLIE, configured, counted, parts
 from report import ALFA_ID, BRAVO_ID, DAY, HOUR, NEW_YORK, Chance, accepted, line, payloads
 from report import configuration as of_report
-from wire import AUTHOR, FIRST, PATIENCE, SECOND, Closed, identifier, report
+from wire import AUTHOR, FIRST, PATIENCE, SECOND, SLOWNESS, Closed, identifier, report
 
 IDS = {FIRST: ALFA_ID, SECOND: BRAVO_ID}
 CITIES, SEED = 4, "1"
 # Moments of a city at which it is asked.
 MOMENTS = 12
 # The reports of a journal that is long enough for two questions to meet.
-MANY = 40_000 if PATIENCE == 1 else 6_000
+MANY = 40_000 if SLOWNESS == 1 else 6_000
 LINES = 4_000
 NOT_KEPT, BUSY = b'{"error":"not_kept"}', b'{"error":"busy"}'
 UNTOLD = re.compile(rb"ruffletuff: what stood at \d+ isn't told: .+\n")
@@ -399,7 +399,7 @@ def at_once(given):
             expect(it.fault is None, f"{it.path} for {it.token}: {it.fault!r}")
             expect(len(it.bodies) == 1, f"{it.path} for {it.token} has {len(it.bodies)} replies")
         expect(any(it.busy for it in askers), "no question met another one")
-        expect(slowest < 2 * PATIENCE, f"another operator waited for {slowest} s")
+        expect(slowest < 2 * SLOWNESS, f"another operator waited for {slowest} s")
         after = counted(server)
         expect({it: after[it] for it in kept} == kept, f"a question left something in the journal: {kept} and {after}")
     yield from ()

@@ -21,22 +21,17 @@ lines again behind all parts. Last comes 'N passed, M failed' over all parts, ',
 where one failed.
 """
 
-import contextlib
-import glob
 import os
 import re
-import signal
-import subprocess
 import sys
 import tempfile
-import threading
 import time
 
 import packages
+import parts
 import unproved
 
 HERE = os.path.dirname(os.path.abspath(__file__))
-MEMORY = 3 << 30  # bytes for one part, at most
 SCRIPT_PARTS = 3
 GROWTH_SECONDS = 20  # for the growths of a crate's tests
 KILLS = "10"
@@ -54,57 +49,35 @@ SLOW = "8"  # how many times as long a part waits for a program that isn't prove
 TESTS = re.compile(r"^test result: \w+\. (\d+) passed; (\d+) failed;", re.M)
 
 
-class Part:
-    """One thing to do: its name, how long it takes about, the parts whose programs it runs, those that are to be over first, and the call
-    that does it."""
-
-    def __init__(self, name, minutes, needs, call, behind=()):
-        self.name, self.minutes, self.needs, self.call, self.behind = name, minutes, needs, call, (*needs, *behind)
-        self.begun, self.ended, self.passed, self.failed, self.skipped, self.text = False, False, 0, 0, 0, ""
-
-    def do(self, printing):
-        with printing:
-            print(f"begins: {self.name}, about {self.minutes} min", flush=True)
-        begun = time.monotonic()
-        lost = [it.name for it in self.needs if it.failed]
-        try:
-            counts = self.call() if not lost else (0, 1, 0, f"not done, since this failed: {lost[0]}\n")
-        except (OSError, ValueError, subprocess.SubprocessError) as fault:
-            counts = (0, 1, 0, f"{fault!r}\n")
-        self.passed, self.failed, self.skipped, self.text = counts
-        with printing:
-            print(f"== {self.name}, in {time.monotonic() - begun:.0f} s: {packages.count(*counts[:3])}")
-            print("".join(f"   {line}\n" for line in self.text.splitlines()), end="", flush=True)
-
-
-def counted(status, text, pattern):
-    """The counts that a part printed last, and of the lines that tell what was left out. A part that printed none, or ended badly without a
+def counted(ran, pattern):
+    """The counts that a command printed last, and of the lines that tell what was left out. One that printed none, or ended badly without a
     failure, has failed."""
-    found = pattern.findall(text)
+    found = pattern.findall(ran.text)
     passed, failed = map(int, found[-1][:2]) if found else (0, 1)
-    return passed, failed or int(status != 0), len(packages.LEFT_OUT.findall(text)), text
+    return parts.Result(passed, failed or int(ran.status != 0), len(packages.LEFT_OUT.findall(ran.text)), ran.text, ran.seconds)
+
+
+def run(name, *words, slow=False):
+    """Runs one of the Python files beside this one."""
+    return parts.run([sys.executable, "-B", f"{HERE}/{name}", *words], {"PATIENCE": SLOW if slow else "1"})
 
 
 def tests_of(name, program):
     """Builds and runs the tests of a crate; those that passed are counted alone. Where a file is named, the program is kept there."""
-    status, text = unproved.build(name, program, tests=True)
-    passed, failed, skipped, text = counted(status, text, TESTS)
-    kept = [line for line in text.splitlines() if not re.fullmatch(r"test \S+ \.\.\. ok|tests: \d+", line)]
-    return passed, failed, skipped, "\n".join(kept)
+    found = counted(run("unproved.py", name, *([program] if program else []), "--test"), TESTS)
+    kept = [line for line in found.text.splitlines() if not re.fullmatch(r"test \S+ \.\.\. ok|tests: \d+", line)]
+    return found._replace(text="\n".join(kept))
 
 
 def program_of(name):
     """Builds a program, and runs it on the crate's own input."""
-    status, text = unproved.keep(name)
-    return int(status == 0), int(status != 0), 0, text if status else ""
+    ran = run("unproved.py", name)
+    return parts.Result(int(ran.status == 0), int(ran.status != 0), 0, ran.text if ran.status else "", ran.seconds)
 
 
 def script(name, *words, slow=True):
-    """Runs one of the Python files beside this one."""
-    words = [sys.executable, "-B", f"{HERE}/{name}", *words]
-    how = {"stdin": subprocess.DEVNULL, "stdout": subprocess.PIPE, "stderr": subprocess.STDOUT, "errors": "replace"}
-    ran = subprocess.run(words, env={**os.environ, "PATIENCE": SLOW if slow else "1"}, check=False, **how)
-    return counted(ran.returncode, ran.stdout, packages.COUNT)
+    """Runs a test."""
+    return counted(run(name, *words, slow=slow), packages.COUNT)
 
 
 def crates_with_tests():
@@ -119,12 +92,12 @@ def crates_with_tests():
     return sorted((name for name, (_, has) in found.items() if has), key=lambda name: -found[name][0])
 
 
-def parts(room):
-    """All parts, the longest chain first."""
+def all_parts(room):
+    """All parts, each behind those that it waits for."""
     made, built, slow = [], {}, {}
 
     def add(name, minutes, needs, call, behind=()):
-        made.append(Part(name, minutes, needs, call, behind))
+        made.append(parts.Part(name, minutes, call, needs, behind))
         return [made[-1]]
 
     for name, minutes in (("ruffletuff", 4), ("mds_replay", 1)):
@@ -180,51 +153,12 @@ def parts(room):
     return made
 
 
-def lanes():
-    """How many parts may run at once."""
-    with open("/proc/meminfo", encoding="ascii") as text:
-        free = 1024 * int(re.search(r"MemAvailable:\s+(\d+)", text.read())[1])
-    return max(1, min(len(os.sched_getaffinity(0)), free // MEMORY))
-
-
-def work(todo, changed, printing):
-    """Does one part after another, each once those that it waits for have ended."""
-    while True:
-        with changed:
-            while not (ready := [it for it in todo if not it.begun and all(need.ended for need in it.behind)]):
-                if all(it.begun for it in todo):
-                    return
-                changed.wait()
-            ready[0].begun = True
-        try:
-            ready[0].do(printing)
-        finally:
-            with changed:
-                ready[0].ended = True
-                changed.notify_all()
-
-
-def end_all():
-    """Tells what still runs to end and to clear up, as by Ctrl-C."""
-    for path in glob.glob("/proc/self/task/*/children"):
-        with contextlib.suppress(OSError), open(path, encoding="ascii") as children:
-            for child in map(int, children.read().split()):
-                os.kill(child, signal.SIGINT)
-
-
 def main():
     begun = time.monotonic()
-    signal.signal(signal.SIGTERM, lambda number, _: sys.exit(128 + number))
-    with tempfile.TemporaryDirectory(prefix="make-test-") as room:
-        todo, changed, printing = parts(room), threading.Condition(), threading.Lock()
-        workers = [threading.Thread(target=work, args=(todo, changed, printing), daemon=True) for _ in range(lanes())]
-        try:
-            for it in workers:
-                it.start()
-            for it in workers:
-                it.join()
-        finally:
-            end_all()
+    parts.end_by_signals()
+    with tempfile.TemporaryDirectory(prefix="make-test-", ignore_cleanup_errors=True) as room:
+        todo = all_parts(room)
+        parts.do_all(todo, parts.lanes())
     passed, failed = (sum(getattr(it, which) for it in todo) for which in ("passed", "failed"))
     print(f"in {(time.monotonic() - begun) / 60:.1f} minutes; nothing is proved by this (make prove)")
     for it in todo:

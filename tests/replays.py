@@ -17,6 +17,7 @@ import sys
 HERE = os.path.dirname(os.path.abspath(__file__))
 # How many times as long as for the proved program is waited for one that isn't proved, which is slower (tests/unproved.py).
 PATIENCE = int(os.environ.get("PATIENCE", "1"))
+SLOWNESS = int(os.environ.get("SLOWNESS", str(PATIENCE)))  # as in wire.py
 SECONDS = 120 * PATIENCE
 
 MESSAGES = {0: b"", 1: b"replay: write fault\n", 2: b"replay: bad configuration\n", 3: b"replay: no memory\n"}
@@ -25,7 +26,7 @@ BODY_LIMIT = 1_048_576
 LINE_LIMIT = 2_097_152
 FLEET_LIMIT = 200_000
 # The limit of a fleet that is filled: a program that isn't proved takes its time.
-FILLED = FLEET_LIMIT if PATIENCE == 1 else 5_000
+FILLED = FLEET_LIMIT if SLOWNESS == 1 else 5_000
 DRAFT_LIMIT = 256
 CATALOGUE_LIMIT = 512
 DEVICES_LISTED = 100
@@ -553,7 +554,7 @@ def main(program, part=1, parts=1):
     tried = {name: told(name, found) for number, (name, found) in enumerate(tries(program)) if number % parts == part - 1}
     for line in (line for found in tried.values() for line in found):
         print(line)
-    if PATIENCE > 1 and a_fleet_at_its_limit.__name__ in tried:
+    if SLOWNESS > 1 and a_fleet_at_its_limit.__name__ in tried:
         print(f"a_fleet_at_its_limit has a limit of {FILLED}, not of {FLEET_LIMIT} as in make prove")
     failed = sum(bool(found) for found in tried.values())
     print(f"{len(tried) - failed} passed, {failed} failed")

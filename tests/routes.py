@@ -36,7 +36,7 @@ from journals import until_not_taken
 from kept import City, Tried, is_keeping, serving
 from messages import BODY_LIMIT
 from route_table import APP, APP_ORDER, METHODS, NOWHERE, ORDER, PAGE, PROTOCOL, PUBLIC, STATUS, WHO, blocks, nowhere, singles
-from wire import PATIENCE, SECONDS, Closed, identifier, report, request
+from wire import SECONDS, SLOWNESS, Closed, identifier, report, request
 
 TOKENS = {"author": (AUTHOR,), "operator": (ALFA,), "anonymous": ("nobody", "")}
 # What the table speaks of.
@@ -62,23 +62,23 @@ NO_ROOM_SAID = b"ruffletuff: the disk has no room: changes are answered 503 unti
 Run = collections.namedtuple("Run", "server keeps is_full")
 
 QUESTIONS, COMPLIANCE = 32, "/compliance"
-AT_ONCE = 0.25 * PATIENCE  # seconds
+AT_ONCE = 0.25 * SLOWNESS  # seconds
 # What is published is told behind two of the questions: the one that is answered, and the next. A fourth of what all take is far more.
 NEXT, SHARE = 2, 1 / 4
 LONG = 0.3  # seconds that a question takes at the least
 LONGEST = 30 * SECONDS  # that an answer may take
-PAUSE = 0.1 if PATIENCE == 1 else 0.5  # seconds between requests beside long questions
+PAUSE = 0.1 if SLOWNESS == 1 else 0.5  # seconds between requests beside long questions
 MOST_DRAFTS = 256
 # How many policies and vehicles make a question long. The least of these fleets is taken that does. A program that isn't proved is slow.
 POLICIES, FLEETS = 512, (8_000, 12_000, 18_000, 27_000, 40_000, 60_000, 90_000, 135_000, 200_000)
 LINES = 4_000  # of a body of reports
-if PATIENCE > 1:
+if SLOWNESS > 1:
     POLICIES, FLEETS, LINES = 48, (125, 250, 500, 1_000, 2_000, 4_000, 8_000), 500
 
 REFUSED = ("no_route", "method", "role", "token", "bad_id")
 REFUSED_TO = TOKENS | {"operator": (ALFA, BRAVO)}
 CHANGING = ("GET", "POST", "PUT", "DELETE")
-OFTEN = 200 if PATIENCE == 1 else 50
+OFTEN = 200 if SLOWNESS == 1 else 50
 
 
 # --- A city --------------------------------------------------------------------------------------------------------

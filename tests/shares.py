@@ -35,7 +35,7 @@ from beside import Background, high_of
 from clients import draft_of_policy, policy, these_policies
 from journals import until
 from kept import Alone, City, Tried, held, slowed
-from wire import AUTHOR, FIRST, PATIENCE, SECOND, SECONDS, Closed, Link, identifier, report, request
+from wire import AUTHOR, FIRST, SECOND, SECONDS, SLOWNESS, Closed, Link, identifier, report, request
 
 THIRD = "charlie"
 MANY, ONE = "/app/fleet/events", "/fleet/events"
@@ -43,7 +43,7 @@ LASTS = 10
 HIGH = 0.250  # seconds, of the 99th percentile of a change
 LEAST = 3  # changes of each who asks, in a load
 # A program that isn't proved is slow.
-LINES, REPORTS = (16_384, 4_000) if PATIENCE == 1 else (2_048, 400)
+LINES, REPORTS = (16_384, 4_000) if SLOWNESS == 1 else (2_048, 400)
 JUNK_OF_REPORTS = 100  # of so many lines of a body of reports one is none
 CONNECTIONS_OF_JUNK, CONNECTIONS_OF_REPORTS, CONNECTIONS = 3, 1, 4
 SINGLES, BODIES_BESIDE_SINGLES = 64, 4
@@ -386,7 +386,7 @@ def lines_that_are_none(program):
     none = (b"x", b" ", b"{}", b"[1]", b"\xff\xfe", b'{"device_id":', report(1).replace(b":5}", b":200}"), b"\r\r")
     with Alone(program, configuration()) as server:
         texts, wanted = [], []
-        for number in range(2_000 // PATIENCE):
+        for number in range(2_000 // SLOWNESS):
             texts.append(none[number // 7 % len(none)] if number % 7 == 6 else report(number))
         alone = {it: server.ask("POST", ONE, FIRST, it) for it in none}
         for text in texts:
@@ -410,7 +410,7 @@ def main():
     program, found = os.path.abspath(options.program), Tried()
     found.one("lines that are no reports", lines_that_are_none(program))
     try:
-        beside_many_lines(found, program, options.seconds, None if options.told else HIGH * PATIENCE)
+        beside_many_lines(found, program, options.seconds, None if options.told else HIGH * SLOWNESS)
         if packages.program("cc"):
             on_a_slow_disk(found, program, options.seconds)
             found.one("on a disk that waits", on_a_disk_that_waits(program))

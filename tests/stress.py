@@ -20,13 +20,13 @@ import sys
 import time
 
 from kept import serving
-from wire import AUTHOR, PATIENCE, Link, identifier, request
+from wire import AUTHOR, PATIENCE, SLOWNESS, Link, identifier, request
 
 HERE = os.path.dirname(os.path.abspath(__file__))
 SERVE, REPLAY = (os.path.join(HERE, "..", "crates", name, "out", name) for name in ("mds_serve", "mds_replay"))
 PUBLICATIONS, OPERATORS = 500, 8
 MOST_PUBLICATIONS, MOST_OPERATORS = 500, 64
-MOST_REQUESTS, IDLE_REQUESTS = 50_000, 1_000 // PATIENCE
+MOST_REQUESTS, IDLE_REQUESTS = 50_000, 1_000 // SLOWNESS
 SECONDS = 60 * PATIENCE
 SQUARE, POLICY, RULE, DEVICE, OPERATOR = 1, 2, 3, 4, 9
 

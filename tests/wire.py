@@ -13,8 +13,12 @@ import subprocess
 import tempfile
 import time
 
-# How many times as long as for the proved program is waited for one that isn't proved, which is slower (tests/unproved.py).
+# How many times as long as for the proved program, with the machine for itself, is waited for one that isn't proved, which is slower
+# (tests/unproved.py), or that others run beside.
 PATIENCE = int(os.environ.get("PATIENCE", "1"))
+# How many times as slow as the proved program it is itself, where that isn't the same: so much less it is sent, and so much longer may what
+# is judged take. The proved one is sent all and judged by the same bounds, whatever runs beside.
+SLOWNESS = int(os.environ.get("SLOWNESS", str(PATIENCE)))
 SECONDS = 10 * PATIENCE  # for anything that has no deadline of its own
 
 AUTHOR, FIRST, SECOND = "city", "alfa", "bravo"
