@@ -6,7 +6,7 @@ ghost use Rattle.journal_commit.specs.declared.decisions.TheConstants.{MOST_TEXT
 use crate::commit_log::CommitLog;
 use crate::decisions::MOST_TEXTS;
 use crate::history::{CommitLedger, LogName, LogPosition};
-use crate::rounds::Rounds;
+use crate::rounds::{BegunRound, EndedRound, Rounds};
 use crate::space::Space;
 use journal_file::{AppendFault, Log, SyncFault};
 use std::alloc::{AllocError, Global};
@@ -112,7 +112,35 @@ pub struct Flusher<K: LogName, L: Log> {
 }
 
 impl<K: LogName, L: Log> FlushedLog<K, L> {
-    /// A round: appends a group, syncs it, and records that in the ledger. Where the group is empty it syncs alone.
+    /// Appends a group in a round that has begun, syncs it, which ends the round, and records that in the ledger. Where the
+    /// group is empty it syncs alone.
+    ///
+    /// # Errors
+    ///
+    /// An append or a sync failed.
+    fn write(
+        &mut self,
+        ledger: &CommitLedger<K, L>,
+        round: BegunRound,
+        group: &[Vec<u8>],
+        reached: LogPosition<K, L>,
+    ) -> Result<EndedRound, FlushFault>
+        requires { reached ≡ self.old ++ map (λ v. v.items) group.now }
+        ensures all { OnOk result (self.new ≡ reached) }
+        ensures synced { OnOk result (AreSynced L.may_be L.is_synced reached) }
+        ensures round { IfOk result (λ ended. ended.number ≡ round.number) }
+    {
+        if !group.is_empty() {
+            self.position = self.log.append(self.position, group)?;
+        }
+        self.taken = reached;
+        let ended = round.sync(&mut self.log)?;
+        self.taken.publish(ledger, &self.log, self.synced);
+        self.synced = self.taken.len();
+        Ok(ended)
+    }
+
+    /// A round from its beginning to its end: writes a group.
     ///
     /// # Errors
     ///
@@ -130,13 +158,7 @@ impl<K: LogName, L: Log> FlushedLog<K, L> {
     {
         let round = rounds.begin(self.round).ok_or(FlushFault::Failed)?;
         self.round = round.number();
-        if !group.is_empty() {
-            self.position = self.log.append(self.position, group)?;
-        }
-        self.taken = reached;
-        let ended = round.sync(&mut self.log)?;
-        self.taken.publish(ledger, &self.log, self.synced);
-        self.synced = self.taken.len();
+        let ended = self.write(ledger, round, group, reached)?;
         rounds.announce(ended);
         Ok(())
     }

@@ -112,7 +112,7 @@ fn publish<K: LogName, L: Log, R: JoinRuntime>(
 }
 
 /// A response that shows no record.
-fn read<K: LogName, L: Log>(
+pub(crate) fn read<K: LogName, L: Log>(
     keeper: &Arc<CommitLog<K, L, CountedSpace>>,
     nothing: &LogPosition<K, L>,
 ) -> Result<AwaitSync<u32, K, L, CountedSpace>, AllocError> {

@@ -29,6 +29,8 @@ mod past;
 #[cfg(test)]
 mod restart;
 #[cfg(test)]
+mod rounds;
+#[cfg(test)]
 mod runtime;
 #[cfg(test)]
 mod served;

@@ -1,0 +1,5 @@
+use Rattle.tests_journal.proofs.rounds.rounds_over_journal.Given as goal
+
+-- the book of the log that was just opened
+abbrev pub ghosts-serve_rounds : goal.ghosts-serve_rounds
+ghosts-serve_rounds g a = record { book = a.opened.seen.book; client_of = λ text. 0 }
