@@ -1,5 +1,5 @@
 //! Serves an open city: one thread writes its journal, others answer.
-ghost use Rattle.std.specs.Prelude.{◌≡◌, ℕ, List, IfErr, IfOk, IfSome, OnOk, Err, Ok, Some, is_ok, map};
+ghost use Rattle.std.specs.Prelude.{◌≡◌, IfErr, IfOk, IfSome, OnOk, Err, Ok, Some, is_ok, map};
 ghost use Rattle.ruffletuff.specs.Ended.{LeavesAll};
 ghost use Rattle.ruffletuff.specs.Ends.{outcome_of};
 ghost use Rattle.ruffletuff.specs.Resumed.{AreResumed};
@@ -152,8 +152,8 @@ where
     S: SendSpace,
     R: ServerHost,
     requires book { history.seen.book ≡ N.book }
-    requires listed { (first : List (List ℕ)) × L.may_be log first }
-    requires resumed { AreResumed (L.may_be log) K.configuration stage.dropped.now
+    requires listed { L.may_be log N.first }
+    requires resumed { AreResumed K.configuration stage.dropped.now N.first
         hall.room_opening.front.seen.log (map (λ desk. desk.opening.front.seen.log) hall.desks.items) }
     requires space { S.aside space ≡ 0 }
     requires clients { N.client_of ≡ client_in K.configuration }
