@@ -11,7 +11,7 @@ abbrev pub IfEnded : {A : Type 0} → CityEnd A → (A → Type 0) → Type 0
 IfEnded (Ended it) P = P it
 IfEnded Held P = ⊤
 
--- The log's payloads are of each client the records of all turns of the room or its desk, whose lists begin so, in their
--- order, and no others.
+-- The log's payloads are of each client the records of all turns of the room or its desk, whose lists begin so, in
+-- their order, and no others.
 abbrev pub LeavesAll : Configuration → List TurnItem → List (List TurnItem) → List (List ℕ) → Type 0
 LeavesAll configuration room openings texts = ∥ EndsLogged configuration room openings texts ∥₁

@@ -9,7 +9,8 @@ use Rattle.server_journal.specs.declared.fault.JournalFault.TheVariants as fault
 
 -- That a journal wasn't written to its end is reported before all else. An ended city leaves the log where its end gave
 -- as many payloads as the log was given; `NotWhole` is for no other end.
-abbrev pub outcome_of : {E F : Type 0} → Result (List (List ℕ)) E → Result (CityEnd (Option (List (List ℕ)))) F → Result (CityEnd (List (List ℕ))) ExitCause
+abbrev pub outcome_of : {E F : Type 0} → Result (List (List ℕ)) E → Result (CityEnd (Option (List (List ℕ)))) F
+    → Result (CityEnd (List (List ℕ))) ExitCause
 outcome_of (Err fault) ended = Err NotKept
 outcome_of (Ok log) (Err fault) = Err NoListener
 outcome_of (Ok log) (Ok Held) = Ok Held

@@ -343,8 +343,7 @@ fn resume_and_report<K: HallName, R: ThreadHost + Wait>(
     }
 }
 
-/// Starts a server from what a log has, under the names of one opening and of its desks' lists and of the log, and serves
-/// it.
+/// Starts a server from what a log has, under the names of one opening, of its desks' lists and of the log, and serves it.
 ///
 /// # Errors
 ///

@@ -139,9 +139,8 @@ where
 ///
 /// # Errors
 ///
-/// `NoMemory`, `NoListener` where the polling of events failed, `NotKept` where the log couldn't be written any more, or
-/// `NotWhole` where the city was ended and the log isn't of the records of all turns, which a body that never gives a log
-/// would end with.
+/// `NoMemory`, `NoListener` where the polling of events failed, `NotKept` where the log couldn't be written any more,
+/// or `NotWhole` where the city was ended and the log isn't known to be of the records of all turns.
 pub fn persist_and_serve<K, N, L, S, R>(
     rt: &R,
     hall: Hall<K>,
@@ -257,8 +256,8 @@ where
     outcome_of(flushed, ended)
 }
 
-/// How a server ended, by how its journal was written and how it left its city: the log is given where it is that of the
-/// ended city.
+/// How a server ended, by how its journal was written and how it left its city: the log is given where it is that of
+/// the ended city.
 ///
 /// # Errors
 ///
