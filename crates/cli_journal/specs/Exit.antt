@@ -10,7 +10,7 @@ use Rattle.journal_recovery.specs.declared.fault.StartFault.TheVariants.{Opening
 use Rattle.journal_compaction.specs.declared.fault.CompactFault.{CompactFault}
 use Rattle.journal_compaction.specs.declared.fault.CompactFault.TheVariants as thin
 use Rattle.cli_journal.specs.declared.exit_cause.ExitCause.{ExitCause}
-use Rattle.cli_journal.specs.declared.exit_cause.ExitCause.TheVariants.{Usage, Misconfigured, NoOversight, NoPage, NoMemory, NoListener, NoControl, NotStopped, NotPrinted, Folder, Refused, NotKept, NotThinned, Differs, NoArchive, NotArchived, ReportFolder, ReportEntry, Report}
+use Rattle.cli_journal.specs.declared.exit_cause.ExitCause.TheVariants.{Usage, Misconfigured, NoOversight, NoPage, NoMemory, NoListener, NoControl, NotStopped, NotPrinted, Folder, Refused, NotKept, NotWhole, NotThinned, Differs, NoArchive, NotArchived, ReportFolder, ReportEntry, Report}
 use Rattle.cli_journal.specs.Reports.{report_status, report_message}
 
 -- an entry that can't be replayed: 503 is out of memory, and any other is one of another configuration
@@ -19,7 +19,8 @@ cause_status causes.NoDesk = 6
 cause_status (causes.Refused status) = if status == 503 then 3 else 6
 
 -- 1 for what can't be listened to or written to, 2 for wrong arguments or a wrong configuration, 3 for out of memory, 4
--- to 6 for a folder, 7 where a journal couldn't be written or archived, 8 where a compacted one leads to another state
+-- to 6 for a folder, 7 where a journal couldn't be written or archived, or isn't known to have all that was answered, 8
+-- where a compacted one leads to another state
 abbrev pub exit_status : ExitCause → ℕ
 exit_status NoListener = 1
 exit_status NoControl = 1
@@ -34,6 +35,7 @@ exit_status NoArchive = 4
 exit_status (Folder fault) = folder.exit_status fault
 exit_status (Refused fault) = cause_status fault.cause
 exit_status NotKept = 7
+exit_status NotWhole = 7
 exit_status NotThinned = 7
 exit_status (NotArchived fault) = 7
 exit_status Differs = 8
@@ -76,6 +78,7 @@ message_of NotPrinted = codes "ruffletuff: standard output can't be written"
 message_of (Folder fault) = folder_message fault
 message_of (Refused fault) = cause_message fault.cause
 message_of NotKept = codes "ruffletuff: the journal couldn't be written any more"
+message_of NotWhole = codes "ruffletuff: the journal isn't known to have all that was answered"
 message_of NotThinned = codes "ruffletuff: the thinned journal couldn't be written"
 message_of Differs = codes "ruffletuff: the thinned journal leads to another city"
 message_of NoArchive = codes "ruffletuff: the archive can't be used"

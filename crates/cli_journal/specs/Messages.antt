@@ -2,7 +2,7 @@
 use Rattle.std.specs.Prelude.{ℕ, List, slice_get, Option, Some, None}
 use Rattle.cli_args.specs.Commands.{Request, serve, check, check_config, audit, thin, report, stop}
 use Rattle.cli_journal.specs.declared.exit_cause.ExitCause.{ExitCause}
-use Rattle.cli_journal.specs.declared.exit_cause.ExitCause.TheVariants.{Misconfigured, NoOversight, NoPage, NoListener, NoControl, NotStopped, Folder, Refused, NotKept, NotThinned, Differs, NoArchive, NotArchived, ReportFolder, ReportEntry, Report}
+use Rattle.cli_journal.specs.declared.exit_cause.ExitCause.TheVariants.{Misconfigured, NoOversight, NoPage, NoListener, NoControl, NotStopped, Folder, Refused, NotKept, NotWhole, NotThinned, Differs, NoArchive, NotArchived, ReportFolder, ReportEntry, Report}
 use Rattle.cli_journal.specs.declared.report_fault.ReportFault.{ReportFault}
 use Rattle.cli_journal.specs.declared.report_fault.ReportFault.TheVariants.{NoFirst, NoLast, NoTime, NoOperator, NoFolder, Present, NotWritten}
 
@@ -63,6 +63,7 @@ place_in asked NotStopped = control_of asked
 place_in asked (Folder fault) = folder_of asked
 place_in asked (Refused fault) = folder_of asked
 place_in asked NotKept = folder_of asked
+place_in asked NotWhole = folder_of asked
 place_in asked NotThinned = folder_of asked
 place_in asked Differs = folder_of asked
 place_in asked NoArchive = archive_of asked

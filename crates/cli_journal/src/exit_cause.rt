@@ -37,6 +37,8 @@ pub enum ExitCause {
     Refused(Fault),
     /// The journal couldn't be written any more.
     NotKept,
+    /// The server was stopped, and its journal isn't known to have the records of just what was carried out.
+    NotWhole,
     /// The compacted journal couldn't be written next to the journal, which stays.
     NotThinned,
     /// The compacted journal leads to another state than the journal, which stays.
@@ -109,6 +111,7 @@ impl ExitCause {
             }
             ExitCause::Report(fault) => fault.status(),
             ExitCause::NotKept | ExitCause::NotThinned | ExitCause::NotArchived(_) => 7,
+            ExitCause::NotWhole => 7,
             ExitCause::Differs => 8,
         }
     }
@@ -133,6 +136,8 @@ impl ExitCause {
             }
             ExitCause::Report(fault) => fault.message(),
             ExitCause::NotKept => "ruffletuff: the journal couldn't be written any more",
+            ExitCause::NotWhole =>
+                "ruffletuff: the journal isn't known to have all that was answered",
             ExitCause::NotThinned => "ruffletuff: the thinned journal couldn't be written",
             ExitCause::Differs => "ruffletuff: the thinned journal leads to another city",
             ExitCause::NoArchive => "ruffletuff: the archive can't be used",

@@ -114,6 +114,7 @@ fn place_in<'a>(asked: &CliCommand<'a>, ending: &ExitCause) -> Option<&'a str>
         ExitCause::Folder(_)
         | ExitCause::Refused(_)
         | ExitCause::NotKept
+        | ExitCause::NotWhole
         | ExitCause::NotThinned
         | ExitCause::Differs => folder_of(asked),
         ExitCause::NoArchive | ExitCause::NotArchived(_) => archive_of(asked),

@@ -4,6 +4,7 @@
 
 mod admin;
 mod arguments;
+mod city_end;
 mod city_journals;
 mod controlling;
 mod counting;

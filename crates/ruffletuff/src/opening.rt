@@ -1,10 +1,11 @@
 //! Opens a city: its folder, its listener, its journal, its room and desks.
-ghost use Rattle.std.specs.Prelude.{◌≡◌, ℕ, List, IfOk};
+ghost use Rattle.std.specs.Prelude.{◌≡◌, ℕ, List, IfOk, map};
 ghost use Rattle.mds_request.specs.Configuration.{configuration};
 ghost use Rattle.mds_snapshot.specs.Opening.{book_of};
+ghost use Rattle.server_durable.specs.Owners.{client_in};
 ghost use Rattle.server_state.specs.TurnLists.{books_of, room_book_of};
 ghost use Rattle.journal_recovery.specs.Recovery.{server_of};
-ghost use Rattle.server_journal.specs.Starting.{IsStartedFromLog};
+ghost use Rattle.server_journal.specs.Starting.{IsStartedFrom};
 
 use crate::admin::AdminState;
 use crate::host::{CommandHost, FolderHost, SendLog, SendSpace, ServerHost, ThreadHost};
@@ -15,10 +16,10 @@ use cli_args::ServeOptions;
 use cli_config::Limits;
 use cli_host::FileHost;
 use cli_journal::{ExitCause, clear, ensure_compactions, journal_length, report_cut};
-use journal_commit::{Ballast, UnnamedHistory};
+use journal_commit::{Ballast, SharedLogName, UnnamedHistory};
 use journal_compaction::AnswersAgree;
 use journal_file::{FileStorage, HasLogEnd, Journal, Log};
-use journal_folder::{CutFiles, Folder, FolderFault, Folders, open_folder};
+use journal_folder::{CutFiles, Folder, FolderFault, Folders, begin_journal, open_folder};
 use journal_swap::{CompactionSchedule, CompactionSource, Handoff, SwapLog};
 use mds_desk::{AuthorRoom, Desk};
 use mds_request::Config;
@@ -32,7 +33,7 @@ use server_journal::{
 };
 use server_start::workers;
 use server_state::{Hall, HallName, SharedHallName, TurnLists};
-use std::alloc::AllocGlobal;
+use std::alloc::{AllocGlobal, Global};
 use std::fs::File;
 use std::marker::Brand;
 use std::sync::{Arc, Wait};
@@ -283,43 +284,73 @@ where
 {
     let blank = prepare(rt.alloc())?;
     let lists = TurnLists::new(rt.alloc(), config.operators().len())?;
-    serve_opening::<Brand, L, S, R>(rt, log, space, config, (blank, lists), stage)
+    let read = read_log(rt.alloc(), log, &config)?;
+    serve_opening::<Brand, Brand, L, S, R>(rt, read, space, config, (blank, lists), stage)
 }
 
-/// The author's room and the desks, as the server that wrote this log left them: see `server_journal::resume`. Where
-/// the limit of an operator is too low for the journal, that is reported.
+/// A log, the payloads that it has, and a history that continues it.
+#[derive(Drop)]
+struct ReadLog<L: Log> {
+    log: L,
+    texts: Vec<Vec<u8>>,
+    history: UnnamedHistory<L>,
+}
+
+/// Reads a log, which gets the configuration's head as its first payload where it is empty, and begins a history after
+/// what it has.
+///
+/// # Errors
+///
+/// `Folder` where the log couldn't be read, begun or continued, or out of memory.
+fn read_log<L: Log>(alloc: Global, log: L, config: &Config) -> Result<ReadLog<L>, ExitCause>
+    requires { (first : List (List ℕ)) × L.may_be log first }
+    ensures { IfOk result (λ read. L.may_be read.log (map (λ t. t.items) read.texts.items)) }
+{
+    let mut log = log;
+    let texts = begin_journal(alloc, &mut log, config)?;
+    let Ok(history) = UnnamedHistory::new(&mut log) else {
+        return Err(ExitCause::Folder(FolderFault::Unusable));
+    };
+    Ok(ReadLog {
+        log,
+        texts,
+        history,
+    })
+}
+
+/// The author's room and the desks, as the server that wrote a journal of these payloads left them: see
+/// `server_journal::resume`. Where the limit of an operator is too low for the journal, that is reported.
 ///
 /// # Errors
 ///
 /// As `exit_of` says of `resume`, and `NoMemory`.
-fn resume_and_report<K: HallName, L: Log, R: ThreadHost + Wait>(
+fn resume_and_report<K: HallName, R: ThreadHost + Wait>(
     rt: &R,
-    log: &mut L,
+    texts: Vec<Vec<u8>>,
     config: Config,
     blank: Blank,
     dropped: &[Id],
     counters: &Counters,
 ) -> Result<(AuthorRoom<K>, Vec<Desk<K>>), ExitCause>
     requires book { book_of blank ≡ K.book }
-    requires listed { (first : List (List ℕ)) × L.may_be log.old first }
-    ensures { IfOk result (λ r. IsStartedFromLog (L.may_be log.new) (configuration config) dropped.now
+    ensures { IfOk result (λ r. IsStartedFrom (configuration config) dropped.now (map (λ t. t.items) texts.items)
         (server_of r.0 r.1.items)) }
 {
     let limits = Limits::of(rt.alloc(), &config)?;
-    match resume::<K, L, R>(rt, log, config, blank, dropped, counters) {
+    match resume::<K, R>(rt, &texts, config, blank, dropped, counters) {
         Ok(resumed) => Ok(resumed),
         Err(fault) => Err(report_fault(rt, &limits, &fault)),
     }
 }
 
-/// Starts a server from a log, under the name of one opening and of its desks' lists, and serves it.
+/// Starts a server from what a log has, under the names of one opening, of its desks' lists and of the log, and serves it.
 ///
 /// # Errors
 ///
-/// As `resume_and_report`, `Folder` where the log couldn't be continued, or as `persist_and_serve`.
-fn serve_opening<K: SharedHallName, L: SendLog, S: SendSpace, R>(
+/// As `resume_and_report`, or as `persist_and_serve`.
+fn serve_opening<K: SharedHallName, N: SharedLogName, L: SendLog, S: SendSpace, R>(
     rt: &R,
-    log: L,
+    read: ReadLog<L>,
     space: S,
     config: Config,
     opened: (Blank, TurnLists),
@@ -331,25 +362,28 @@ where
     requires configured { configuration config ≡ K.configuration }
     requires turns { books_of opened.1 ≡ K.turns }
     requires room_turns { room_book_of opened.1 ≡ K.room_turns }
-    requires listed { (first : List (List ℕ)) × L.may_be log first }
+    requires history { read.history.seen.book ≡ N.book }
+    requires clients { N.client_of ≡ client_in K.configuration }
+    requires first { map (λ t. t.items) read.texts.items ≡ N.first }
+    requires listed { L.may_be read.log N.first }
     requires space { S.aside space ≡ 0 }
 {
-    let mut log = log;
+    let ReadLog {
+        log,
+        texts,
+        history,
+    } = read;
     let (blank, lists) = opened;
     let counters = stage.board.counters;
-    let (room, desks) = resume_and_report::<K, L, R>(
+    let (room, desks) = resume_and_report::<K, R>(
         rt,
-        &mut log,
+        texts,
         config,
         blank,
         stage.dropped,
         counters,
     )?;
     let hall = Hall::<K>::of(rt, rt.alloc(), room, desks, lists)?;
-    let Ok(history) = UnnamedHistory::new(&mut log) else {
-        hall.finish(rt);
-        return Err(ExitCause::Folder(FolderFault::Unusable));
-    };
-    let _log = persist_and_serve::<K, Brand, L, S, R>(rt, hall, history, log, space, stage)?;
+    let _end = persist_and_serve::<K, N, L, S, R>(rt, hall, history, log, space, stage)?;
     Ok(())
 }

@@ -1,4 +1,4 @@
--- The log from which a room and desks are started.
+-- The payloads from which a room and desks are started.
 use Rattle.std.specs.Prelude.{◌≡◌, ℕ, Bool, true, false, List, ◌∷◌, map, None}
 use Rattle.mds_request.specs.Configuration.{Configuration}
 use Rattle.mds_request.specs.declared.request.Verb.{Verb}
@@ -25,11 +25,6 @@ pub record IsStartedFrom (configuration : Configuration) (dropped texts : List (
   pub entries : List Entry
   pub head : HasHead configuration dropped texts (map entry_text entries)
   pub started : IsStartedAgain configuration (without dropped entries) s
-
--- The log may be of such payloads.
-abbrev pub IsStartedFromLog : (List (List ℕ) → Type 0) → Configuration → List (List ℕ) → Server → Type 0
-IsStartedFromLog may_be configuration dropped s =
-    (texts : List (List ℕ)) × may_be texts × IsStartedFrom configuration dropped texts s
 
 -- whether a client's request with this verb publishes: to publish is the author's only POST
 abbrev pub publishes : EntryClient → Verb → Bool

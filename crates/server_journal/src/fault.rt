@@ -10,7 +10,7 @@ use std::alloc::AllocError;
 pub enum JournalFault {
     /// Memory ran out.
     NoMemory,
-    /// The journal can't be read or begun, is damaged, or doesn't fit the configuration.
+    /// The journal is damaged, or doesn't fit the configuration.
     Folder(FolderFault),
     /// An entry can't be replayed.
     Refused(Fault),

@@ -1,19 +1,18 @@
-//! Starts a server's room and desks from its log.
-ghost use Rattle.std.specs.Prelude.{◌≡◌, ℕ, List, map, count_by, IfOk, option_to_list};
+//! Starts a server's room and desks from the payloads of its log.
+ghost use Rattle.std.specs.Prelude.{◌≡◌, map, count_by, IfOk, option_to_list};
 ghost use Rattle.mds_request.specs.Configuration.{configuration};
 ghost use Rattle.mds_snapshot.specs.Opening.{book_of};
 ghost use Rattle.journal_entry.specs.Entries.{entry_of};
 ghost use Rattle.journal_recovery.specs.Laws.{IsStartedAgain};
 ghost use Rattle.journal_recovery.specs.Recovery.{server_of};
 ghost use Rattle.server_journal.specs.Faults.{fault_of, full_fleet, is_conflict};
-ghost use Rattle.server_journal.specs.Starting.{HasHead, IsStartedFrom, IsStartedFromLog, is_publication};
+ghost use Rattle.server_journal.specs.Starting.{HasHead, IsStartedFrom, is_publication};
 
 use crate::fault::JournalFault;
 use crate::host::ReplayHost;
 use crate::progress::ReplayProgress;
 use journal_entry::{EntryClient, JournalEntry};
-use journal_file::Log;
-use journal_folder::{Damage, FolderFault, begin_journal, entries_in, suits, without_operators};
+use journal_folder::{Damage, FolderFault, entries_in, suits, without_operators};
 use journal_recovery::{Cause, Fault, StartFault, start_again};
 use mds_desk::{AuthorRoom, Desk};
 use mds_request::{Config, Verb};
@@ -82,15 +81,16 @@ fn publications(entries: &[JournalEntry<'_>]) -> usize
 
 /// The author's room and the desks, in the configuration's order, as the server that wrote a journal of these payloads
 /// left them: each of its entries is replayed, but for those of the operators that are left out. K names the opening.
+/// `journal_folder::begin_journal` gives the payloads of a log.
 ///
 /// What was answered before and what is done from here on are what one server did. The publications among the entries
-/// are counted.
+/// are counted, and the progress is reported on standard error.
 ///
 /// # Errors
 ///
 /// `Folder` where the payloads aren't those of a journal of this configuration; `Refused` at the first entry that isn't
 /// answered with success, or `FullFleet` where that is for its operator's limit; `NoMemory`.
-fn start<K: OpeningName, R: ReplayHost>(
+pub fn resume<K: OpeningName, R: ReplayHost>(
     rt: &R,
     texts: &[Vec<u8>],
     config: Config,
@@ -179,32 +179,4 @@ fn replay_entries<K: OpeningName, R: ReplayHost>(
         Ok(started) => Ok(started),
         Err(fault) => Err(fault_of(entries, fault)),
     }
-}
-
-/// The author's room and the desks, as the server that wrote this log left them: each entry of the log is replayed, but
-/// for those of the operators that are left out. An empty log gets the configuration's head as its first payload. K
-/// names the opening. The publications in the log are counted, and the progress is reported on standard error.
-///
-/// # Errors
-///
-/// `Folder` where the log couldn't be read or begun, or isn't a journal of this configuration; `Refused` at the first
-/// entry that isn't answered with success, or `FullFleet` where that is for its operator's limit; `NoMemory`.
-pub fn resume<K: OpeningName, L: Log, R: ReplayHost>(
-    rt: &R,
-    log: &mut L,
-    config: Config,
-    blank: Blank,
-    dropped: &[Id],
-    counters: &Counters,
-) -> Result<(AuthorRoom<K>, Vec<Desk<K>>), JournalFault>
-    requires book { book_of blank ≡ K.book }
-    requires listed { (first : List (List ℕ)) × L.may_be log.old first }
-    ensures { IfOk result (λ r. IsStartedFromLog (L.may_be log.new) (configuration config) dropped.now
-        (server_of r.0 r.1.items)) }
-{
-    let texts = match begin_journal(rt.alloc(), log, &config) {
-        Ok(texts) => texts,
-        Err(fault) => return Err(JournalFault::Folder(fault)),
-    };
-    start::<K, R>(rt, &texts, config, blank, dropped, counters)
 }

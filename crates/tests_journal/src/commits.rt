@@ -1,5 +1,5 @@
 //! Group commit over a journal in memory whose calls fail from the Nth on.
-ghost use Rattle.std.specs.Prelude.{◌≡◌, ℕ, List, []};
+ghost use Rattle.std.specs.Prelude.{◌≡◌, ℕ, List, [], IfOk};
 ghost use Rattle.tests_journal.specs.declared.commits.TheConstants.{AUTHOR};
 
 use crate::runtime::{JoinRuntime, TestRuntime, WaitingRuntime};
@@ -165,7 +165,7 @@ where
     R: JoinRuntime,
     requires book { opened.seen.book ≡ K.book }
     requires clients { (text : List ℕ) → K.client_of text ≡ AUTHOR }
-    requires listed { (first : List (List ℕ)) × L.may_be log first }
+    requires listed { L.may_be log K.first }
 {
     let space = CountedSpace {
         left: 100_000_000,
@@ -193,13 +193,38 @@ where
     Ok((log.map(|ended| ended.into_log()), told?))
 }
 
-/// Empty storage, on which so many calls succeed. Two are for opening a journal, and one for beginning to serve.
-fn storage(alloc: Global, calls_left: u32) -> MemoryStorage {
+/// Empty storage, on which so many calls succeed.
+fn storage(alloc: Global, calls_left: u32) -> MemoryStorage
+    ensures { result.bytes.items ≡ [] }
+{
     MemoryStorage {
         bytes: Vec::new(alloc),
         calls_left,
         is_synced: true,
     }
+}
+
+/// A journal that has nothing yet, on whose storage so many calls succeed, and the history that continues it. Two calls
+/// are for opening the journal, and one for beginning the history.
+fn new_journal<R: AllocGlobal>(
+    rt: &R,
+    calls_left: u32,
+) -> Result<
+    (
+        Journal<MemoryStorage>,
+        UnnamedHistory<Journal<MemoryStorage>>,
+    ),
+    Fail,
+>
+    ensures { IfOk result (λ new. ⟦<Journal<MemoryStorage> as Log>⟧.may_be new.0 []) }
+{
+    let Ok(mut log) = Journal::open(rt.alloc(), storage(rt.alloc(), calls_left)) else {
+        return Err("a journal".into());
+    };
+    let Ok(opened) = UnnamedHistory::new(&mut log) else {
+        return Err("a history".into());
+    };
+    Ok((log, opened))
 }
 
 /// Serves one client over a journal on whose storage so many calls succeed.
@@ -208,12 +233,7 @@ fn serve_over_journal<R: JoinRuntime>(
     calls_left: u32,
     confirmation: Confirmation,
 ) -> Result<(Result<Journal<MemoryStorage>, FlushFault>, ClientReplies), Fail> {
-    let Ok(mut log) = Journal::open(rt.alloc(), storage(rt.alloc(), calls_left)) else {
-        return Err("a journal".into());
-    };
-    let Ok(opened) = UnnamedHistory::new(&mut log) else {
-        return Err("a history".into());
-    };
+    let (log, opened) = new_journal(rt, calls_left)?;
     serve_client::<Brand, Journal<MemoryStorage>, R>(rt, opened, log, confirmation)
 }
 
@@ -260,12 +280,7 @@ fn reservations_are_bounded(rt: HostRuntime) -> Result<(), Fail> {
 }
 
 fn expect_bounds_over_journal<R: TestRuntime>(rt: &R) -> Result<(), Fail> {
-    let Ok(mut log) = Journal::open(rt.alloc(), storage(rt.alloc(), 3)) else {
-        return Err("a journal".into());
-    };
-    let Ok(opened) = UnnamedHistory::new(&mut log) else {
-        return Err("a history".into());
-    };
+    let (log, opened) = new_journal(rt, 3)?;
     expect_bounds::<Brand, Journal<MemoryStorage>, R>(rt, opened, log)
 }
 
@@ -277,7 +292,7 @@ fn expect_bounds<K: LogName, L: Log, R: TestRuntime>(
 ) -> Result<(), Fail>
     requires book { opened.seen.book ≡ K.book }
     requires clients { (text : List ℕ) → K.client_of text ≡ AUTHOR }
-    requires listed { (first : List (List ℕ)) × L.may_be log first }
+    requires listed { L.may_be log K.first }
 {
     let space = CountedSpace { left: 59, aside: 0 };
     let (keeper, _flusher, nothing) = open::<K, L, CountedSpace>(
@@ -317,12 +332,7 @@ fn many_reservations_are_settled_together(rt: HostRuntime) -> Result<(), Fail> {
 }
 
 fn expect_settlement_over_journal<R: TestRuntime>(rt: &R) -> Result<(), Fail> {
-    let Ok(mut log) = Journal::open(rt.alloc(), storage(rt.alloc(), 3)) else {
-        return Err("a journal".into());
-    };
-    let Ok(opened) = UnnamedHistory::new(&mut log) else {
-        return Err("a history".into());
-    };
+    let (log, opened) = new_journal(rt, 3)?;
     expect_settlement::<Brand, Journal<MemoryStorage>, R>(rt, opened, log)
 }
 
@@ -344,7 +354,7 @@ fn expect_settlement<K: LogName, L: Log, R: TestRuntime>(
 ) -> Result<(), Fail>
     requires book { opened.seen.book ≡ K.book }
     requires clients { (text : List ℕ) → K.client_of text ≡ AUTHOR }
-    requires listed { (first : List (List ℕ)) × L.may_be log first }
+    requires listed { L.may_be log K.first }
 {
     let space = CountedSpace {
         left: 118,
@@ -396,12 +406,7 @@ fn reservations_are_shared_out(rt: HostRuntime) -> Result<(), Fail> {
 }
 
 fn expect_shares_over_journal<R: TestRuntime>(rt: &R) -> Result<(), Fail> {
-    let Ok(mut log) = Journal::open(rt.alloc(), storage(rt.alloc(), 3)) else {
-        return Err("a journal".into());
-    };
-    let Ok(opened) = UnnamedHistory::new(&mut log) else {
-        return Err("a history".into());
-    };
+    let (log, opened) = new_journal(rt, 3)?;
     expect_shares::<Brand, Journal<MemoryStorage>, R>(rt, opened, log)
 }
 
@@ -457,7 +462,7 @@ fn expect_shares<K: LogName, L: Log, R: TestRuntime>(
 ) -> Result<(), Fail>
     requires book { opened.seen.book ≡ K.book }
     requires clients { (text : List ℕ) → K.client_of text ≡ AUTHOR }
-    requires listed { (first : List (List ℕ)) × L.may_be log first }
+    requires listed { L.may_be log K.first }
 {
     let space = CountedSpace {
         left: 100_000_000,
@@ -509,7 +514,7 @@ fn read_twice<K: LogName, L: Log, R: WaitingRuntime>(
     confirmation: Confirmation,
 ) -> Result<ReadOutcome<L>, Fail>
     requires book { opened.seen.book ≡ K.book }
-    requires listed { (first : List (List ℕ)) × L.may_be log first }
+    requires listed { L.may_be log K.first }
 {
     let space = CountedSpace { left: 0, aside: 0 };
     let (keeper, flusher, nothing) = open::<K, L, CountedSpace>(
@@ -543,12 +548,7 @@ fn read_over_journal<R: WaitingRuntime>(
     calls_left: u32,
     confirmation: Confirmation,
 ) -> Result<ReadOutcome<Journal<MemoryStorage>>, Fail> {
-    let Ok(mut log) = Journal::open(rt.alloc(), storage(rt.alloc(), calls_left)) else {
-        return Err("a journal".into());
-    };
-    let Ok(opened) = UnnamedHistory::new(&mut log) else {
-        return Err("a history".into());
-    };
+    let (log, opened) = new_journal(rt, calls_left)?;
     read_twice::<Brand, Journal<MemoryStorage>, R>(rt, opened, log, confirmation)
 }
 

@@ -1,5 +1,5 @@
 //! A response that is made while a round of the commit log is under way.
-ghost use Rattle.std.specs.Prelude.{◌≡◌, ℕ, List};
+ghost use Rattle.std.specs.Prelude.{◌≡◌, [], IfOk};
 
 use crate::commits::read;
 use crate::runtime::JoinRuntime;
@@ -10,7 +10,7 @@ use journal_commit::{
     SharedLogName, UnnamedHistory, open,
 };
 use journal_file::{Journal, Log, MemoryStorage, Storage, StorageFault};
-use std::alloc::Global;
+use std::alloc::{AllocGlobal, Global};
 use std::marker::Brand;
 use std::sync::Arc;
 use std::sync::atomic::{AtomicBool, Ordering};
@@ -120,7 +120,7 @@ where
     L: Log + Send + Sync,
     R: JoinRuntime,
     requires book { opened.seen.book ≡ K.book }
-    requires listed { (first : List (List ℕ)) × L.may_be log first }
+    requires listed { L.may_be log K.first }
 {
     let space = CountedSpace { left: 0, aside: 0 };
     let (keeper, flusher, nothing) = open::<K, L, CountedSpace>(
@@ -146,6 +146,42 @@ where
     Ok((log.map(|ended| ended.into_log()), told?))
 }
 
+/// Empty storage of ten calls, whose syncs wait for these signals.
+fn held_storage<'a>(alloc: Global, signals: &'a Signals) -> HeldStorage<'a>
+    ensures { result.memory.bytes.items ≡ [] }
+{
+    HeldStorage {
+        memory: MemoryStorage {
+            bytes: Vec::new(alloc),
+            calls_left: 10,
+            is_synced: true,
+        },
+        signals,
+    }
+}
+
+/// A journal there that has nothing yet, and the history that continues it.
+fn held_journal<'a, R: AllocGlobal>(
+    rt: &R,
+    signals: &'a Signals,
+) -> Result<
+    (
+        Journal<HeldStorage<'a>>,
+        UnnamedHistory<Journal<HeldStorage<'a>>>,
+    ),
+    Fail,
+>
+    ensures { IfOk result (λ new. ⟦<Journal<HeldStorage<'a>> as Log>⟧.may_be new.0 []) }
+{
+    let Ok(mut log) = Journal::open(rt.alloc(), held_storage(rt.alloc(), signals)) else {
+        return Err("a journal".into());
+    };
+    let Ok(opened) = UnnamedHistory::new(&mut log) else {
+        return Err("a history".into());
+    };
+    Ok((log, opened))
+}
+
 /// What was answered during a round over a journal, and how many calls its storage has left of ten.
 fn rounds_over_journal<R: JoinRuntime>(
     rt: &R,
@@ -154,20 +190,7 @@ fn rounds_over_journal<R: JoinRuntime>(
         has_begun: AtomicBool::new(false),
         may_end: AtomicBool::new(true),
     };
-    let storage = HeldStorage {
-        memory: MemoryStorage {
-            bytes: Vec::new(rt.alloc()),
-            calls_left: 10,
-            is_synced: true,
-        },
-        signals: &signals,
-    };
-    let Ok(mut log) = Journal::open(rt.alloc(), storage) else {
-        return Err("a journal".into());
-    };
-    let Ok(opened) = UnnamedHistory::new(&mut log) else {
-        return Err("a history".into());
-    };
+    let (log, opened) = held_journal(rt, &signals)?;
     let (log, told) = serve_rounds::<Brand, Journal<HeldStorage<'_>>, R>(
         rt, opened, log, &signals,
     )?;

@@ -8,7 +8,9 @@ use crate::restart::{JOURNAL, expect_replies};
 use crate::runtime::TestRuntime;
 use journal_commit::{CountedSpace, NoRoom, Space};
 use journal_file::{Journal, Log, MemoryStorage, are_taken, group_of};
+use journal_folder::begin_journal;
 use journal_recovery::Cause;
+use mds_desk::{AuthorRoom, Desk};
 use mds_request::Config;
 use mds_snapshot::{Blank, OpeningName, prepare};
 use mds_text::Id;
@@ -55,15 +57,31 @@ fn storage_of(rt: &impl Abort, alloc: Global, asked: &[TimedExchange<'_>]) -> Me
     }
 }
 
-/// Checks that a room and desks which are resumed from a log reply as those that wrote it.
-fn go_on<K: OpeningName, L: Log, R: ReplayRuntime>(rt: &R, log: L, config: Config, blank: Blank)
+/// The room and desks that are resumed from what a log has, without the entries of these operators.
+fn resume_log<K: OpeningName, L: Log, R: ReplayRuntime>(
+    rt: &R,
+    log: L,
+    config: Config,
+    blank: Blank,
+    dropped: &[Id],
+) -> Result<(AuthorRoom<K>, Vec<Desk<K>>), JournalFault>
     requires book { book_of blank ≡ K.book }
     requires listed { (first : List (List ℕ)) × L.may_be log first }
 {
     let counters = zero_counters(rt.alloc()).expect(rt, "counters");
     let mut log = log;
-    let resumed = resume::<K, L, R>(rt, &mut log, config, blank, &[], &counters);
-    let Ok((room, desks)) = resumed else {
+    let texts = begin_journal(rt.alloc(), &mut log, &config)
+        .ok()
+        .expect(rt, "payloads");
+    resume::<K, R>(rt, &texts, config, blank, dropped, &counters)
+}
+
+/// Checks that a room and desks which are resumed from a log reply as those that wrote it.
+fn go_on<K: OpeningName, L: Log, R: ReplayRuntime>(rt: &R, log: L, config: Config, blank: Blank)
+    requires book { book_of blank ≡ K.book }
+    requires listed { (first : List (List ℕ)) × L.may_be log first }
+{
+    let Ok((room, desks)) = resume_log::<K, L, R>(rt, log, config, blank, &[]) else {
         panic!(rt; "a server");
     };
     expect_replies(rt, room, desks);
@@ -80,9 +98,7 @@ fn refusal<K: OpeningName, L: Log, R: ReplayRuntime>(
     requires book { book_of blank ≡ K.book }
     requires listed { (first : List (List ℕ)) × L.may_be log first }
 {
-    let counters = zero_counters(rt.alloc()).expect(rt, "counters");
-    let mut log = log;
-    match resume::<K, L, R>(rt, &mut log, config, blank, dropped, &counters) {
+    match resume_log::<K, L, R>(rt, log, config, blank, dropped) {
         Ok((room, _desks)) => {
             room.finish(rt);
             None

@@ -4,7 +4,7 @@ use Rattle.journal_entry.specs.Entries.{entry_of}
 use Rattle.journal_folder.specs.Choosing.{without}
 use Rattle.journal_recovery.specs.Recovery.{server_of}
 use Rattle.server_journal.proofs.Starts.{if_ok, texts_of, started_from}
-use Rattle.server_journal.proofs.starting.start.Goals as goal
+use Rattle.server_journal.proofs.starting.resume.Goals as goal
 
 pub returns : goal.returns
 returns g c =

@@ -1,6 +1,7 @@
+use Rattle.std.specs.Prelude.{[]}
 use Rattle.tests_journal.specs.declared.commits.TheConstants.{AUTHOR}
 use Rattle.tests_journal.proofs.commits.expect_settlement_over_journal.Given as goal
 
--- the book of the log that was just opened, all of whose payloads are the author's
+-- the book of the log that was just opened and has nothing yet, all of whose payloads are to be the author's
 abbrev pub ghosts-expect_settlement : goal.ghosts-expect_settlement
-ghosts-expect_settlement g a = record { book = a.opened.seen.book; client_of = λ text. AUTHOR }
+ghosts-expect_settlement g a = record { book = a.opened.seen.book; client_of = λ text. AUTHOR; first = [] }
