@@ -2,7 +2,7 @@ use Rattle.std.proofs.Common.{refl, ◌∙◌, arith}
 use Rattle.journal_remote.proofs.below.read_below.Goals as goal
 
 pub chunks-init : goal.chunks-init
-chunks-init g c = record { sent = refl; own = refl; within = omega arith; }
+chunks-init g c = record { sent = refl; own = refl; within = omega arith }
 
 pub chunks-preserved : goal.chunks-preserved
 chunks-preserved g c = record {
