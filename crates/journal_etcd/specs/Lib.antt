@@ -3,3 +3,4 @@ pub mod Keys
 pub mod Requests
 pub mod Reading
 pub mod Answers
+pub mod Chunks

@@ -39,7 +39,7 @@ fn answer_of(succeeded: bool, look: Look) -> Answer
 
 /// The JSON that a body is.
 #[tactic(auto, unfolding(crate::specs::Reading::json_of))]
-fn json_of<'a>(
+pub(crate) fn json_of<'a>(
     alloc: Global,
     body: &'a [u8],
     scratch: &'a mut Scratch<Global>,
@@ -55,7 +55,7 @@ fn json_of<'a>(
 
 /// The value of a pair with this key.
 #[tactic(auto, unfolding(crate::specs::Reading::value_in))]
-fn value_in(alloc: Global, pair: &Value<'_>, key: &[u8]) -> Result<Vec<u8>, AnswerError>
+pub(crate) fn value_in(alloc: Global, pair: &Value<'_>, key: &[u8]) -> Result<Vec<u8>, AnswerError>
     ensures { Gives (λ bytes. bytes.items) result (value_in key.now (value_view pair.now)) }
 {
     let found = bytes_in(alloc, pair, "key")?;

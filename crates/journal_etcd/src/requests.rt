@@ -48,8 +48,9 @@ fn push_member(text: &mut String, name: &str, bytes: &[u8]) -> Result<(), AllocE
     text.push_str("\"")
 }
 
+/// Appends the members that name all keys from one on, up to another.
 #[tactic(auto, unfolding(crate::specs::Requests::range_members))]
-fn push_range(text: &mut String, first: &[u8], behind: &[u8]) -> Result<(), AllocError>
+pub(crate) fn push_range(text: &mut String, first: &[u8], behind: &[u8]) -> Result<(), AllocError>
     ensures { OnOk result (string_bytes text.new ≡ string_bytes text.old ++ range_members first.now behind.now) }
 {
     push_member(text, "key", first)?;

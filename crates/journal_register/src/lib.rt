@@ -1,5 +1,5 @@
-//! The register of a journal in etcd, which no program uses yet: who owns the journal, where it ends, the transactions
-//! that change this, what an answer to one means, and that an owner that was overtaken changes nothing any more.
+//! The register of a journal in etcd: who owns the journal, where it ends, the transactions that change this, what an
+//! answer to one means, and that an owner that was overtaken changes nothing any more.
 #![tactic(auto)]
 
 mod head;

@@ -1,6 +1,7 @@
-//! The storage of a journal in the chunks of a register, beside the one in a file. No program uses it yet.
+//! The storage of a journal in the chunks of a register, beside the one in a file.
 #![tactic(auto)]
 
+mod below;
 mod budget;
 mod end;
 mod engine;
@@ -14,6 +15,7 @@ mod send;
 mod tenure;
 mod watch;
 
+pub use below::read_below;
 pub use budget::{LogBudget, LogUsage};
 pub use engine::Engine;
 pub use memory_engine::{Delivery, MemoryEngine, MemoryMessage, memory_storage};

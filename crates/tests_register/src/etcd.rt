@@ -1,13 +1,14 @@
 //! Tests of what is said to etcd and of what it answers: requests by etcd's documentation of its gateway, base64 by
 //! another program and by RFC 4648, and answers in the form in which etcd 3.4.23 gives them.
 use journal_etcd::{
-    AnswerError, AnswerFault, GatewayPath, Keys, RequestFault, TransactionAnswer, head_value,
-    look_request, owner_value, read_head, read_look, read_owner, read_transaction,
-    transaction_request,
+    AnswerError, AnswerFault, GatewayPath, Keys, RequestFault, TransactionAnswer, chunks_request,
+    head_value, look_request, owner_value, read_chunks, read_head, read_look, read_owner,
+    read_transaction, transaction_request,
 };
 use journal_file::LogEnd;
 use journal_register::{
-    Extent, FIRST_HEAD, Generation, Head, Look, NO_HEAD, NOBODY, Outcome, Owner, Transaction,
+    ChunkKey, Extent, FIRST_HEAD, Generation, Head, Look, NO_HEAD, NOBODY, Outcome, Owner,
+    Transaction,
 };
 use std::alloc::Global;
 use std::process::Abort;
@@ -110,6 +111,26 @@ const APPEND_REQUEST: &str =
 
 const REMOVAL_PART: &str =
     r#""success":[{"request_delete_range":{"key":"Yy9jLzAwMDAwMDAwMDAwMDAwMDEwMDAwMDAwMDAwMDAwMDAwLw==","range_end":"Yy9jLzAwMDAwMDAwMDAwMDAwMDEwMDAwMDAwMDAwMDAwMDAwMA=="}},{"request_range""#;
+
+/// The request for the chunks of the first generation from the eleventh on, and the answer with two of three.
+const CHUNKS_REQUEST: &str =
+    r#"{"key":"Yy9jLzAwMDAwMDAwMDAwMDAwMDEwMDAwMDAwMDAwMDAwMDAwLzAwMDAwMDAwMDAwMDAwMGE=","range_end":"Yy9jLzAwMDAwMDAwMDAwMDAwMDEwMDAwMDAwMDAwMDAwMDAwMA==","limit":"16"}"#;
+
+const TWO_CHUNKS: &str =
+    r#"{"header":{"cluster_id":"1","member_id":"2","revision":"9","raft_term":"2"},"kvs":[{"key":"Yy9jLzAwMDAwMDAwMDAwMDAwMDEwMDAwMDAwMDAwMDAwMDAwLzAwMDAwMDAwMDAwMDAwMGE=","create_revision":"3","mod_revision":"3","version":"1","value":"YWI="},{"key":"Yy9jLzAwMDAwMDAwMDAwMDAwMDEwMDAwMDAwMDAwMDAwMDAwLzAwMDAwMDAwMDAwMDAwMGI=","create_revision":"4","mod_revision":"4","version":"1","value":"Yw=="}],"more":true,"count":"3"}"#;
+
+/// The same, where the second of the two isn't the next.
+const NOT_NEXT: &str =
+    r#"{"header":{},"kvs":[{"key":"Yy9jLzAwMDAwMDAwMDAwMDAwMDEwMDAwMDAwMDAwMDAwMDAwLzAwMDAwMDAwMDAwMDAwMGE=","value":"YWI="},{"key":"Yy9jLzAwMDAwMDAwMDAwMDAwMDEwMDAwMDAwMDAwMDAwMDAwLzAwMDAwMDAwMDAwMDAwMGM=","value":"Yw=="}]}"#;
+
+/// The eleventh chunk.
+const ELEVENTH: ChunkKey = ChunkKey {
+    generation: Generation {
+        epoch: 1,
+        attempt: 0,
+    },
+    index: 10,
+};
 
 /// What the look at the register without its keys shows.
 const UNCLAIMED: Look = Look {
@@ -265,4 +286,20 @@ fn faults_are_named(rt: HostRuntime) {
         expect_no_look(&rt, rt.alloc(), body.as_bytes(), *fault);
     }
     expect_no_look(&rt, rt.alloc(), b"{}\xff", AnswerFault::NotJson);
+}
+
+#[test]
+fn chunks_are_read_in_their_order(rt: HostRuntime) {
+    let alloc = rt.alloc();
+    let request = chunks_request(alloc, &KEYS, ELEVENTH, 16).expect(&rt, "a request");
+    assert!(rt; request.as_str() == CHUNKS_REQUEST);
+    let run = read_chunks(alloc, &KEYS, ELEVENTH, 16, TWO_CHUNKS.as_bytes()).expect(&rt, "chunks");
+    assert!(rt; run.count == 2 && run.bytes.as_slice() == b"abc".as_slice());
+    let first = read_chunks(alloc, &KEYS, ELEVENTH, 1, TWO_CHUNKS.as_bytes()).expect(
+        &rt, "a chunk",
+    );
+    assert!(rt; first.count == 1 && first.bytes.as_slice() == b"ab".as_slice());
+    let bad = Some(AnswerError::Fault(AnswerFault::BadShape));
+    assert!(rt; read_chunks(alloc, &KEYS, ELEVENTH, 16, NOT_NEXT.as_bytes()).err() == bad);
+    assert!(rt; read_chunks(alloc, &KEYS, ELEVENTH, 16, MISSING.as_bytes()).err() == bad);
 }

@@ -8,6 +8,8 @@ mod budget;
 #[cfg(test)]
 mod etcd;
 #[cfg(test)]
+mod gateway;
+#[cfg(test)]
 mod register;
 #[cfg(test)]
 mod storage;
