@@ -36,7 +36,7 @@ use Rattle.server_durable.proofs.Owning.{reads_clients}
 -- ---- the number of a client tells it
 
 -- a client that is one of the first so many
-abbrev IsFirst : ℕ → Actor → Type 0
+abbrev pub IsFirst : ℕ → Actor → Type 0
 IsFirst many Author = Unit {0}
 IsFirst many (OperatorAt place) = place < many
 IsFirst many Nobody = Unit {0}
@@ -61,13 +61,13 @@ found_first : (operators : List Operator) (id : List ℕ) (found : Option ℕ) �
 found_first operators id None is = tt
 found_first operators id (Some place) is = (position-Some (has_id id) operators place (record { id = []; limit = 0; token = [] }) is).0
 
-entry_first : (configuration : Configuration) (client : EntryClient) → IsFirst (length configuration.operators) (actor_by configuration client)
+pub entry_first : (configuration : Configuration) (client : EntryClient) → IsFirst (length configuration.operators) (actor_by configuration client)
 entry_first configuration TheAuthor = tt
 entry_first configuration (OperatorBy id) = found_first configuration.operators id (position (has_id id) configuration.operators) refl
 
 -- ---- a payload that is the record of a request reads as it
 
-client_of_request : (client : Option EntryClient) (request : Request) (entry : Entry) → option_map (asked_by request) client ≡ Some entry
+pub client_of_request : (client : Option EntryClient) (request : Request) (entry : Entry) → option_map (asked_by request) client ≡ Some entry
     → ((c : EntryClient) → client ≡ Some c → IsClient c) → IsClient entry.client
 client_of_request None request entry is each = absurd cc
 client_of_request (Some c) request entry is each = subst IsClient (cc) (each c refl)

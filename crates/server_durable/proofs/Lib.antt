@@ -21,5 +21,7 @@ mod Unkept
 mod ViewReplies
 mod Ways
 mod Journals
+mod ReadConfigurations
+mod LoggedEntries
 mod LoggedHalls
 mod EndedHalls

@@ -43,6 +43,7 @@ use Rattle.server_durable.specs.Logged.{exchanges_in}
 use Rattle.server_durable.specs.Many.{AreRecordsOf, exchanges}
 use Rattle.server_durable.specs.Owners.{client_in}
 use Rattle.server_durable.proofs.Journals.{logs_are_journals}
+use Rattle.server_durable.proofs.LoggedEntries.{entries_of}
 
 -- ---- a list begins with what was opened
 
@@ -274,11 +275,16 @@ module _ (configuration : Configuration) (s : Server) (r : RoomState) (room : Li
 
 pub halls_go_on : HallsGoOn
 unfolding TurnsAt
-halls_go_on configuration s r room desks items entries tells read served hall =
-    let texts = map entry_text entries in (
-      λ place. (all_turns configuration s r room desks items texts served hall place).0,
-      goes_on configuration s r room desks items texts served hall,
-      logs_are_journals configuration entries (exchanges_in room) (λ place. (all_turns configuration s r room desks items texts served hall place).0) tells read
-          (log_of configuration s r room desks items texts served hall),
+halls_go_on configuration s r room desks items texts tells served hall =
+    let read = entries_of configuration tells s r room desks items texts served hall in
+    let turns : ℕ → List Turn = λ place. (all_turns configuration s r room desks items texts served hall place).0 in
+    let log : IsLogOf configuration (map entry_text read.0) (exchanges_in room) turns =
+    subst (λ (ts : List (List ℕ)). IsLogOf configuration ts (exchanges_in room) turns) read.1.spelled
+    (log_of configuration s r room desks items texts served hall) in (
+      read.0,
+      turns,
+      read.1,
       λ place operator is. ((all_turns configuration s r room desks items texts served hall place).1 operator is).1,
+      goes_on configuration s r room desks items texts served hall,
+      logs_are_journals configuration read.0 (exchanges_in room) turns tells read.1.each log,
     )

@@ -223,3 +223,13 @@ module _ (configuration : Configuration) (client_of : List ℕ → ℕ) where
         logged = are;
         shown = (filter mine front.0, sym (filter-append mine own.texts front.0) ∙ ap (filter mine) front.1);
       }))
+
+-- of a client without records a log that has just its own has none
+pub none_whole : (client_of : List ℕ → ℕ) (own : Own) (client : ℕ) (position all : List (List ℕ)) → own.client ≡ client → own.texts ≡ []
+    → GoesOnBy client_of own [] position → position ≡ all → of_client client_of client all ≡ []
+none_whole client_of own client position all numbered none goes same =
+    ap (of_client client_of client) (sym same)
+    ∙ ap (λ (n : ℕ). of_client client_of n position) (sym numbered)
+    ∙ goes.records
+    ∙ append-nil (of_client client_of own.client own.texts)
+    ∙ ap (of_client client_of own.client) none

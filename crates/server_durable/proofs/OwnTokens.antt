@@ -65,12 +65,12 @@ second_ok (Err fault) f b is = absurd cc
 same_ok : {A : Type 0} (a b : A) → ◌≡◌ {A = Result A Fault} (Ok a) (Ok b) → a ≡ b
 same_ok a b is = cc
 
-unlike_is : (made configuration : Configuration) (b : Bool) → cond b (Err alike) (Ok made) ≡ Ok configuration → (b ≡ false) × (made ≡ configuration)
+pub unlike_is : (made configuration : Configuration) (b : Bool) → cond b (Err alike) (Ok made) ≡ Ok configuration → (b ≡ false) × (made ≡ configuration)
 unlike_is made configuration true is = absurd cc
 unlike_is made configuration false is = (refl, same_ok made configuration is)
 
 -- a configuration that was read has no identifier and no access token twice
-unlike_in : (text : List ℕ) (c : Configuration) → read_configuration text ≡ Ok c → has_alike c ≡ false
+pub unlike_in : (text : List ℕ) (c : Configuration) → read_configuration text ≡ Ok c → has_alike c ≡ false
 unlike_in text c is =
     let tree = second_ok (read_text text) configuration_of c is in
     let document = second_ok (document_of tree.0) _ c tree.1 in

@@ -1,6 +1,6 @@
 -- A log whose records are a journal of what was done.
 use mathlib.Core.List.{IsPrefix}
-use Rattle.std.specs.Prelude.{◌≡◌, ◌<◌, ◌+◌, ◌^◌, ℕ, false, List, [], ◌∷◌, ◌++◌, length, map, Some, slice_get}
+use Rattle.std.specs.Prelude.{◌≡◌, ◌<◌, ◌+◌, ◌^◌, ℕ, zero, suc, false, List, [], ◌∷◌, ◌++◌, length, map, Some, Ok, slice_get}
 use Rattle.std.specs.List.{AllByRecursion}
 use Rattle.journal_commit.specs.Clients.{of_client}
 use Rattle.journal_entry.specs.Entries.{Entry, IsClient, IsEntry, entry_text}
@@ -8,19 +8,19 @@ use Rattle.journal_entry.specs.Requests.{client_at}
 use Rattle.journal_entry.specs.declared.entry.EntryClient.{EntryClient}
 use Rattle.journal_laws.specs.Persisted.{kept, requests_in}
 use Rattle.journal_laws.specs.Servers.{kept_turns}
-use Rattle.journal_recovery.specs.Laws.{GoesOn, IsJournalOf, IsServerOf}
+use Rattle.journal_recovery.specs.Laws.{GoesOn, IsJournalOf, IsServerOf, IsStartedAgain}
 use Rattle.journal_recovery.specs.Recovery.{Server}
 use Rattle.mds_catalog.specs.Publication.{Publication}
 use Rattle.mds_desk.specs.Desk.{DeskState}
 use Rattle.mds_desk.specs.Room.{RoomState, held_in}
 use Rattle.mds_machine.specs.Fronts.{Turn}
 use Rattle.mds_machine.specs.Fronts.{requests_in as turn_requests}
-use Rattle.mds_machine.specs.OneHistory.{exchanges_in as turn_exchanges}
+use Rattle.mds_machine.specs.OneHistory.{HasServed, exchanges_in as turn_exchanges}
 use Rattle.mds_machine.specs.Room.{authors_in}
 use Rattle.mds_machine.specs.Step.{Exchange}
-use Rattle.mds_request.specs.Configuration.{Configuration, Operator, ids, repeats}
+use Rattle.mds_request.specs.Configuration.{Configuration, Operator, has_alike, ids, read_configuration, repeats}
 use Rattle.mds_request.specs.declared.config.Actor.{Actor}
-use Rattle.mds_request.specs.declared.config.Actor.TheVariants.{Author, Operator as OperatorAt}
+use Rattle.mds_request.specs.declared.config.Actor.TheVariants.{Author, Nobody, Operator as OperatorAt}
 use Rattle.server_admission.specs.Actor.{index_of}
 use Rattle.server_state.specs.RoomTurns.{AreRoomTurnsOf, room_opened_as}
 use Rattle.server_state.specs.TurnItem.{TurnItem}
@@ -45,6 +45,12 @@ pub record TellsClients (configuration : Configuration) : Type 0 where
   pub written : (who : Actor) (client : EntryClient) → client_at configuration who ≡ Some client → IsClient client
   pub few : length configuration.operators < 2 ^ 62
 
+-- A configuration that was read from a text is one, and no two of its access tokens are equal either.
+abbrev pub ReadConfigurationsTellClients : Type 0
+ReadConfigurationsTellClients =
+    (text : List ℕ) (configuration : Configuration) → read_configuration text ≡ Ok configuration
+    → TellsClients configuration × (has_alike configuration ≡ false)
+
 -- Such a log, read as entries, is the journal of what was done.
 abbrev pub LogsAreJournals : Type 0
 LogsAreJournals =
@@ -60,6 +66,15 @@ JournalsGoOn =
     → IsJournalOf configuration entries history turns → IsJournalOf configuration more later later_turns
     → IsJournalOf configuration (entries ++ more) (history ++ later) (λ place. turns place ++ later_turns place)
 
+-- The payloads of a log read as these entries: they are their texts, and each entry is within the limits of one.
+pub record ReadsAs (texts : List (List ℕ)) (entries : List Entry) : Type 0 where
+  pub spelled : texts ≡ map entry_text entries
+  pub each : AllByRecursion IsEntry entries
+
+-- no payload names a client that the configuration doesn't have
+abbrev pub HasNoOthers : Configuration → List (List ℕ) → Type 0
+HasNoOthers configuration texts = of_client (client_in configuration) (index_of Nobody) texts ≡ []
+
 -- What one desk of a hall did since the hall was opened over it: the list of its turns begins with it, and the log's
 -- payloads of its operator are the records of these turns, in their order, and no others.
 pub record IsLoggedDesk (configuration : Configuration) (place : ℕ) (first after : DeskState) (items : List TurnItem) (texts : List (List ℕ)) : Type 0 where
@@ -68,7 +83,7 @@ pub record IsLoggedDesk (configuration : Configuration) (place : ℕ) (first aft
   pub logged : AreLogged configuration items (of_client (client_in configuration) (index_of (OperatorAt place)) texts)
 
 -- What a hall did since it was opened over this room and these desks, and its log. Each desk knows a prefix of what the
--- room has published.
+-- room has published. There are no other payloads.
 pub record IsLoggedHall (configuration : Configuration) (s : Server) (r : RoomState) (room : List TurnItem) (desks : ℕ → DeskState)
     (items : ℕ → List TurnItem) (texts : List (List ℕ)) : Type 0 where
   pub opened : IsPrefix (room_opened_as (held_in s.room)) room
@@ -77,20 +92,24 @@ pub record IsLoggedHall (configuration : Configuration) (s : Server) (r : RoomSt
   pub each : (place : ℕ) (operator : Operator) (d : DeskState) → slice_get configuration.operators place ≡ Some operator
       → slice_get s.desks place ≡ Some d
       → IsLoggedDesk configuration place d (desks place) (items place) texts × IsPrefix (desks place).known r.publications
+  pub no_others : HasNoOthers configuration texts
 
--- Such a hall goes on from the room and the desks over which it was opened, by the turns of its lists; and its log, read
--- as entries, is the journal of these.
+-- the exchanges of these turns of each operator's desk are those of its list
+abbrev pub AreOfLists : Configuration → (ℕ → List TurnItem) → (ℕ → List Turn) → Type 0
+AreOfLists configuration items turns =
+    (place : ℕ) (operator : Operator) → slice_get configuration.operators place ≡ Some operator
+    → turn_exchanges (turns place) ≡ exchanges_in (items place)
+
+-- Such a hall goes on from the room and the desks over which it was opened, by the turns of its lists; and its log reads
+-- as entries, which are the journal of these.
 abbrev pub HallsGoOn : Type 0
 HallsGoOn =
     (configuration : Configuration) (s : Server) (r : RoomState) (room : List TurnItem) (desks : ℕ → DeskState) (items : ℕ → List TurnItem)
-    (entries : List Entry)
-    → TellsClients configuration → AllByRecursion IsEntry entries → IsServerOf configuration s
-    → IsLoggedHall configuration s r room desks items (map entry_text entries)
-    → (turns : ℕ → List Turn)
+    (texts : List (List ℕ))
+    → TellsClients configuration → IsServerOf configuration s → IsLoggedHall configuration s r room desks items texts
+    → (entries : List Entry) × (turns : ℕ → List Turn) × ReadsAs texts entries × AreOfLists configuration items turns
     × GoesOn configuration s (exchanges_in room) r.publications turns
     × IsJournalOf configuration entries (exchanges_in room) turns
-    × ((place : ℕ) (operator : Operator) → slice_get configuration.operators place ≡ Some operator
-    → turn_exchanges (turns place) ≡ exchanges_in (items place))
 
 -- What the desk at this place did until its hall ended: the list of its turns begins with this opening, and the log's
 -- payloads of its operator are the records of these turns, in their order, and no others. All that it knows was published.
@@ -109,6 +128,14 @@ AreEndedDesks configuration publications texts place [] = Unit {0}
 AreEndedDesks configuration publications texts place (opening ∷ openings) =
     IsEndedDesk configuration publications texts place opening × AreEndedDesks configuration publications texts (place + 1) openings
 
+-- the list of the desk at a place among them
+abbrev pub items_at : (configuration : Configuration) (publications : List Publication) (texts : List (List ℕ)) (first : ℕ) (openings : List (List TurnItem))
+    → AreEndedDesks configuration publications texts first openings → ℕ → List TurnItem
+items_at configuration publications texts first [] ended place = []
+items_at configuration publications texts first (opening ∷ openings) (it, ended) zero = it.items
+items_at configuration publications texts first (opening ∷ openings) (it, ended) (suc place) =
+    items_at configuration publications texts (first + 1) openings ended place
+
 -- the same of all desks of these openings but those of the first ones, which are the rest
 pub record AreEndedBehind (configuration : Configuration) (publications : List Publication) (texts : List (List ℕ))
     (rest openings : List (List TurnItem)) : Type 0 where
@@ -118,6 +145,7 @@ pub record AreEndedBehind (configuration : Configuration) (publications : List P
 
 -- What a hall did until it ended, and its log: the list of the room's turns begins with its opening, the log's payloads
 -- of the author are the records of these turns, in their order, and no others; and so of the desks, in their order.
+-- There are no other payloads.
 pub record EndsLogged (configuration : Configuration) (opening : List TurnItem) (openings : List (List TurnItem)) (texts : List (List ℕ)) : Type 0 where
   pub r : RoomState
   pub room : List TurnItem
@@ -125,16 +153,43 @@ pub record EndsLogged (configuration : Configuration) (opening : List TurnItem) 
   pub turns : AreRoomTurnsOf configuration room r
   pub logged : AreLogged configuration room (of_client (client_in configuration) (index_of Author) texts)
   pub desks : AreEndedDesks configuration r.publications texts 0 openings
+  pub no_others : HasNoOthers configuration texts
+
+-- the list of the desk at each place in such an end
+abbrev pub lists_of : {configuration : Configuration} {opening : List TurnItem} {openings : List (List TurnItem)} {texts : List (List ℕ)}
+    → EndsLogged configuration opening openings texts → ℕ → List TurnItem
+lists_of {configuration} {opening} {openings} {texts} ends = items_at configuration ends.r.publications texts 0 openings ends.desks
 
 -- A hall that was opened over this room and these desks, and so ended, goes on from these by the turns of its lists; and
--- its log, read as entries, is the journal of these.
+-- its log reads as entries, which are the journal of these.
 abbrev pub EndedHallsGoOn : Type 0
 EndedHallsGoOn =
-    (configuration : Configuration) (s : Server) (entries : List Entry)
-    → TellsClients configuration → AllByRecursion IsEntry entries → IsServerOf configuration s
-    → (ends : EndsLogged configuration (room_opened_as (held_in s.room)) (map opened_as s.desks) (map entry_text entries))
-    → (items : ℕ → List TurnItem) × (turns : ℕ → List Turn)
+    (configuration : Configuration) (s : Server) (texts : List (List ℕ))
+    → TellsClients configuration → IsServerOf configuration s
+    → (ends : EndsLogged configuration (room_opened_as (held_in s.room)) (map opened_as s.desks) texts)
+    → (entries : List Entry) × (turns : ℕ → List Turn) × ReadsAs texts entries × AreOfLists configuration (lists_of ends) turns
     × GoesOn configuration s (exchanges_in ends.room) ends.r.publications turns
     × IsJournalOf configuration entries (exchanges_in ends.room) turns
-    × ((place : ℕ) (operator : Operator) → slice_get configuration.operators place ≡ Some operator
-    → turn_exchanges (turns place) ≡ exchanges_in (items place))
+
+-- These entries are the journal of what one server did: of what was told at its room and at its desks.
+pub record IsJournalOfOneServer (configuration : Configuration) (entries : List Entry) (told : List Exchange) (publications : List Publication)
+    (turns : ℕ → List Turn) : Type 0 where
+  pub served : HasServed configuration told publications turns
+  pub journal : IsJournalOf configuration entries told turns
+
+-- No entries are the journal of a server that did nothing yet.
+abbrev pub NoEntriesAreAJournal : Type 0
+NoEntriesAreAJournal = (configuration : Configuration) → IsJournalOfOneServer configuration [] [] [] (λ place. [])
+
+-- Where such entries are the journal of what one server did, and a room and desks that were started again from them are
+-- those over which a hall was opened that so ended: the hall's log reads as further entries, and all these entries are
+-- the journal of what one server did, before and since. So from these the next one can be started again.
+abbrev pub StoppedServersLeaveJournals : Type 0
+StoppedServersLeaveJournals =
+    (text : List ℕ) (configuration : Configuration) (entries : List Entry) (told : List Exchange) (publications : List Publication)
+    (turns : ℕ → List Turn) (s : Server) (texts : List (List ℕ))
+    → read_configuration text ≡ Ok configuration
+    → IsJournalOfOneServer configuration entries told publications turns → IsStartedAgain configuration entries s
+    → (ends : EndsLogged configuration (room_opened_as (held_in s.room)) (map opened_as s.desks) texts)
+    → (more : List Entry) × (later : ℕ → List Turn) × ReadsAs texts more × AreOfLists configuration (lists_of ends) later
+    × IsJournalOfOneServer configuration (entries ++ more) (told ++ exchanges_in ends.room) ends.r.publications (λ place. turns place ++ later place)

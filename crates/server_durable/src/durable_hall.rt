@@ -60,6 +60,7 @@ pub struct DurableHall<K: HallName, N: LogName, L: Log, S: Space> {
     author: Mutex<Option<AuthorLog<K, N, L>>>,
     /// Each operator's own records, which are those of its desk's turns, in the configuration's order.
     operators: Vec<Mutex<DeskRecords<K, N, L>>>,
+    ghost empty: { nothing ≡ [] },
     /// Whose each payload is, the payload itself says.
     ghost named: { N.client_of ≡ client_in K.configuration },
 }
@@ -126,13 +127,13 @@ impl<K: HallName, N: LogName, L: Log, S: Space> DurableHall<K, N, L, S> {
             hall,
             badges: _badges,
             keeper,
-            nothing: _nothing,
+            nothing,
             author,
             operators,
         } = self;
         let mut end = hall.end();
         let author = author.into_inner();
-        let all = whole_position(rt, &*keeper, &mut end, author, operators);
+        let all = whole_position(rt, &*keeper, &mut end, author, operators, &nothing);
         end.finish(rt);
         all
     }

@@ -1,5 +1,5 @@
 //! Laws of a city's responses. The functions do nothing: their contracts are the laws.
-ghost use Rattle.server_durable.specs.Journals.{EndedHallsGoOn, HallsGoOn, JournalsGoOn, LogsAreJournals};
+ghost use Rattle.server_durable.specs.Journals.{EndedHallsGoOn, HallsGoOn, JournalsGoOn, LogsAreJournals, NoEntriesAreAJournal, ReadConfigurationsTellClients, StoppedServersLeaveJournals};
 ghost use Rattle.server_durable.specs.Laws.{AppCallsAreNotKept, ManyAreKept, OperatorsAreToldTheirOwn, RecordedAreKept, RespondsAsAHall, ViewsAreAskedByTheOperator, ViewsAreByOwnRequests, ViewsAreByOwnRows, ViewsLeaveRows, WithdrawalsAreOfOwnPolicies};
 
 use journal_file::Log;
@@ -51,6 +51,12 @@ pub fn views_are_of_their_operator()
     ensures requests { ViewsAreByOwnRequests }
 {}
 
+/// In a configuration that was read from a text each client can be told by its records: the premise of the laws of logs.
+/// No two of its identifiers or of its access tokens are equal, as compaction wants.
+pub fn read_configurations_tell_clients()
+    ensures { ReadConfigurationsTellClients }
+{}
+
 /// A log whose payloads are, client by client, the records of what was told to be accepted is the journal of what was
 /// done: the premise of the law of restarts.
 pub fn logs_are_journals()
@@ -62,14 +68,22 @@ pub fn journals_go_on()
     ensures { JournalsGoOn }
 {}
 
-/// What a hall did since it was opened over a room and desks goes on from these; and its log, read as entries, is the
-/// journal of what it did.
+/// What a hall did since it was opened over a room and desks goes on from these; and its log reads as entries, which are
+/// the journal of what it did.
 pub fn halls_go_on()
     ensures { HallsGoOn }
 {}
 
-/// What a hall did until it ended goes on from the room and desks over which it was opened; and its log, read as entries,
-/// is the journal of what it did.
+/// What a hall did until it ended goes on from the room and desks over which it was opened; and its log reads as entries,
+/// which are the journal of what it did.
 pub fn ended_halls_go_on()
     ensures { EndedHallsGoOn }
+{}
+
+/// A server that was started again from the journal of what one server did, and whose hall ended, leaves the journal of
+/// what one server did, before and since. A server that did nothing yet has the empty journal; so, by one start after
+/// another, what was done over any number of them is what one server did.
+pub fn stopped_servers_leave_journals()
+    ensures first { NoEntriesAreAJournal }
+    ensures next { StoppedServersLeaveJournals }
 {}

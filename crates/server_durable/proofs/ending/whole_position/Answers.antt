@@ -15,9 +15,9 @@ pub returns-then-pop_all_whole : goal.returns-then-pop_all_whole
 returns-then-pop_all_whole g c =
     let end = c.args.end.now in
     ends_logged g.K.HallName.configuration c.in_ok-all.all g.N.LogName.client_of end.opening.front.seen.log end.room.turns.front.seen.log _
-    (room_of (manually_drop_value end.room.room)) c.requires
+    (room_of (manually_drop_value end.room.room)) c.requires.clients
     (subst (IsPrefix end.opening.front.seen.log) c.in_ok-turns.ensures.whole c.in_ok-turns.ensures.begins)
     (subst (λ (items : List TurnItem). ∥ AreRoomTurnsOf g.K.HallName.configuration items (room_of (manually_drop_value end.room.room)) ∥₁) c.in_ok-turns.ensures.whole c.in_ok-turns.ensures.turns)
     (subst (λ room. ∥ AreLogged g.K.HallName.configuration room.turns.front.seen.log
     (of_client g.N.LogName.client_of (index_of Author) c.in_ok-all.all) ∥₁) c.room.ensures c.in_ok-all.ensures)
-    (c.pop_all_whole.ensures c.if-pop_all_whole.true)
+    (c.pop_all_whole.ensures c.if-pop_all_whole.true) (c.has_none_of_nobody.ensures c.if-not-has_none_of_nobody.false)
