@@ -10,4 +10,4 @@ returns-in-Some g c =
     let nobody = c.new-nobody.result in
     let numbered : nobody.client ≡ index_of Nobody = search rules in
     none_whole g.N.LogName.client_of nobody (index_of Nobody) c.in-Some.position c.args.all.now numbered c.new-nobody.ensures.texts c.in-Some.ensures
-    (c.is_of.ensures same)
+    (c.is_of.ensures.same same)

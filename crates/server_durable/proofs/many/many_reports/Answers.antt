@@ -4,7 +4,7 @@ use Rattle.mds_request.specs.Request.{Request, request_of}
 use Rattle.server_state.specs.WholeRequest.{request_heard}
 use Rattle.server_durable.specs.Many.{AreAskedBy, IsRefusedWhole, reports_of}
 use Rattle.server_durable.proofs.Clients.{place_within, reports_asked}
-use Rattle.server_durable.proofs.Reports.{told_run, told_whole}
+use Rattle.server_durable.proofs.Reports.{told_halted, told_run, told_whole}
 use Rattle.server_durable.proofs.many.many_reports.Goals as goal
 
 pub answer_all-requires-clause-place : goal.answer_all-requires-clause-place
@@ -31,3 +31,8 @@ returns-in-Ok-answer_all g c =
     let are : requests ≡ reports_of request = ap (map request_of) c.as_slice-lent.ensures.value ∙ c.in-Ok.ensures.reports ∙ ap reports_of c.request-request.ensures in
     told_run (λ s. s.reply) (λ s. s.stamp) g.K.HallName.configuration c.args.place request c.reply_to_all.result requests
     replies.answers.items replies.stamp are c.in-Ok-answer_all.ensures c.reply_to_all.ensures.says c.reply_to_all.ensures.stamp
+
+pub returns : goal.returns
+returns g c =
+    told_halted (λ s. s.reply) (λ s. s.stamp) g.K.HallName.configuration c.args.place (request_heard c.args.heard.now) c.refuse_all.result
+    c.in-Err-answer_all.halt c.refuse_all.ensures

@@ -13,4 +13,4 @@ returns-in-Some g c =
     λ same.
     let mine = c.args.self.now in
     whole_logged g.K.HallName.configuration g.N.LogName.client_of mine.own (index_of (Operator mine.place)) c.args.ended.now.turns.front.seen.log
-    c.in-Some.position c.args.all.now (c.has_turns.ensures c.if-not-has_turns.false) mine.numbered c.in-Some.ensures (c.is_of.ensures same)
+    c.in-Some.position c.args.all.now (c.has_turns.ensures c.if-not-has_turns.false) mine.numbered c.in-Some.ensures (c.is_of.ensures.same same)
