@@ -1,5 +1,5 @@
 -- In a configuration that was read from a text each client can be told by its records.
-use Rattle.std.proofs.Common.{◌≡◌, ◌==◌, ◌<◌, ◌≤◌, ◌+◌, ◌*◌, ◌^◌, ℕ, zero, suc, Bool, true, false, cond, nat_le, List, [], ◌∷◌, length, take, drop, get_or, slice_get, slice_index, Option, Some, None, option_map, Result, Ok, Err, inl, refl, sym, ap, subst, ◌∙◌, arith}
+use Rattle.std.proofs.Common.{◌≡◌, ◌==◌, ◌<◌, ◌≤◌, ◌+◌, ◌*◌, ℕ, zero, suc, Bool, true, false, cond, nat_le, List, [], ◌∷◌, length, take, drop, get_or, slice_get, slice_index, Option, Some, None, option_map, Result, Ok, Err, inl, refl, sym, ap, subst, ◌∙◌, arith}
 use Rattle.std.specs.Prelude.{◌&&◌}
 use Rattle.std.specs.List.{AllByRecursion, list_all}
 use Rattle.std.proofs.lemmas.Bool.Decides.{nat_tests}
@@ -58,9 +58,9 @@ of_digits hex id is =
     let same : by_index 16 (byte_of_digits hex) ≡ id = the_same (by_index 16 (byte_of_digits hex)) id read.1 in
     let sixteen : length id ≡ 16 = sym (ap length same) ∙ by_index_length 16 (byte_of_digits hex) in
     let fits : (k : ℕ) → k < length id → get_or id k 0 < 256 = λ k here.
-        let within : k < 16 = omega arith in
-        subst (λ (n : ℕ). n < 256) (sym (by_index_at 16 (byte_of_digits hex) k 0 within) ∙ ap (λ (xs : List ℕ). get_or xs k 0) same)
-        (byte_at hex k tests.1 long within) in
+    let within : k < 16 = omega arith in
+    subst (λ (n : ℕ). n < 256) (sym (by_index_at 16 (byte_of_digits hex) k 0 within) ∙ ap (λ (xs : List ℕ). get_or xs k 0) same)
+    (byte_at hex k tests.1 long within) in
     sym (parses_hyphenated lower id (inl refl) sixteen (all_fit id fits))
 
 of_hyphens : (text id : List ℕ) → parsed_hyphenated text ≡ Some id → IsId id

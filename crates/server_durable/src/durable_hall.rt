@@ -118,7 +118,7 @@ impl<K: HallName, N: LogName, L: Log, S: Space> DurableHall<K, N, L, S> {
 
     /// Ends the author's room: no request can come any more. Gives the log position of all that was appended, whose
     /// payloads are, client by client, the records of all turns of the room and of the desks, in their order, and no
-    /// others. It always does: were it otherwise, none would be given.
+    /// others. Were it otherwise, none would be given; that it is given no clause says.
     pub fn finish<R: Wait>(self, rt: &R) -> Option<LogPosition<N, L>>
         ensures { IfSome result (λ all. ∥ EndsLogged K.configuration self.hall.room_opening.front.seen.log
             (map (λ desk. desk.opening.front.seen.log) self.hall.desks.items) all ∥₁) }

@@ -85,8 +85,8 @@ fn has_none_of_nobody<N: LogName, L: Log, S: Space, R: Wait>(
 }
 
 /// The log position of all that was appended, where its payloads are, client by client, the records of all turns of the
-/// room and of the desks, each in their order, and no others. They always are. The desks are taken out. `nothing` is
-/// the log position at which nothing is appended.
+/// room and of the desks, each in their order, and no others; none where they aren't. The desks are taken out. `nothing`
+/// is the log position at which nothing is appended.
 pub(crate) fn whole_position<K: HallName, N: LogName, L: Log, S: Space, R: Wait>(
     rt: &R,
     keeper: &CommitLog<N, L, S>,

@@ -1,4 +1,4 @@
-use Rattle.std.proofs.Common.{rules, ◌≡◌, []}
+use Rattle.std.proofs.Common.{rules, ◌≡◌}
 use Rattle.mds_request.specs.declared.config.Actor.TheVariants.{Nobody}
 use Rattle.server_admission.specs.Actor.{index_of}
 use Rattle.server_durable.proofs.Logging.{none_whole}
