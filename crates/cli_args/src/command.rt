@@ -2,8 +2,9 @@
 ghost use Rattle.std.specs.Prelude.{◌≡◌, ◌∷◌, map, string_bytes, option_map};
 ghost use Rattle.uuid.specs.Text.{parsed};
 ghost use Rattle.cli_args.specs.Options.{moment_in, count_in};
-ghost use Rattle.cli_args.specs.Commands.{read_if, asked_to_serve, asked_to_audit, asked_to_thin, asked_to_check, asked_to_report, asked_alone, asked_with, asked_of, asked_errand, asked_by, asked_view};
+ghost use Rattle.cli_args.specs.Commands.{read_if, asked_to_serve, asked_to_audit, asked_to_thin, asked_to_check, asked_to_report, asked_alone, asked_with, asked_of, asked_errand, asked_log, asked_status, asked_by, asked_view};
 
+use crate::logs::{LogCommand, log_of, status_of};
 use crate::moment::{count_of, moment_of};
 use crate::options::{are_options, value_of};
 use crate::report::ReportOptions;
@@ -88,6 +89,8 @@ pub enum CliCommand<'a> {
     Stop(&'a str),
     /// To import files into a server, or to export what it has published.
     Errand(Transfer<'a>),
+    /// To do something with a city's journal in etcd.
+    Log(LogCommand<'a>),
 }
 
 /// Reads a value that may be left out as an identifier: `Some(None)` without a value, `None` where it is no identifier.
@@ -248,7 +251,7 @@ fn one_argument_command<'a>(verb: &str, name: &'a str) -> Option<CliCommand<'a>>
     }
 }
 
-/// What a verb other than `serve` and `report` asks for, with its first argument and those behind it.
+/// What a verb other than `serve`, `report` and `status` asks for, with its first argument and those behind it.
 fn verb_command<'a>(verb: &str, name: &'a str, words: &'a [String]) -> Option<CliCommand<'a>>
     ensures { option_map asked_view result ≡ asked_of verb.now name.now (map string_bytes words.now) }
 {
@@ -260,8 +263,30 @@ fn verb_command<'a>(verb: &str, name: &'a str, words: &'a [String]) -> Option<Cl
         audit_command(name, words)
     } else if verb == "thin" {
         thin_command(name, words)
+    } else if verb == "fetch" || verb == "seed" {
+        log_command(verb, name, words)
     } else {
         transfer_command(verb, name, words)
+    }
+}
+
+/// What `fetch` or `seed` asks for, with a folder and options.
+fn log_command<'a>(verb: &str, folder: &'a str, words: &'a [String]) -> Option<CliCommand<'a>>
+    ensures { option_map asked_view result ≡ asked_log verb.now folder.now (map string_bytes words.now) }
+{
+    match log_of(verb, folder, words) {
+        Some(asked) => Some(CliCommand::Log(asked)),
+        None => None,
+    }
+}
+
+/// What `status` asks for, with its options.
+fn status_command(words: &[String]) -> Option<CliCommand<'_>>
+    ensures { option_map asked_view result ≡ asked_status (map string_bytes words.now) }
+{
+    match status_of(words) {
+        Some(asked) => Some(CliCommand::Log(asked)),
+        None => None,
     }
 }
 
@@ -284,6 +309,7 @@ pub fn parse_command(words: &[String]) -> Option<CliCommand<'_>>
         [word] => single_word_command(word.as_str()),
         [verb, rest @ ..] if verb.as_str() == "serve" => serve_command(rest),
         [verb, rest @ ..] if verb.as_str() == "report" => report_command(rest),
+        [verb, rest @ ..] if verb.as_str() == "status" => status_command(rest),
         [verb, name, rest @ ..] => verb_command(verb.as_str(), name.as_str(), rest),
     }
 }
