@@ -4,7 +4,6 @@
 
 mod admin;
 mod arguments;
-mod city_end;
 mod city_journals;
 mod controlling;
 mod counting;

@@ -1,13 +1,11 @@
 //! Serves an open city: one thread writes its journal, others answer.
-ghost use Rattle.std.specs.Prelude.{◌≡◌, IfOk, IfSome, Ok, Some, map};
-ghost use Rattle.ruffletuff.specs.Ended.{IfEnded, LeavesAll};
+ghost use Rattle.std.specs.Prelude.{◌≡◌, IfErr, IfOk, IfSome, OnOk, Err, Ok, Some, is_ok, map};
+ghost use Rattle.ruffletuff.specs.Ended.{LeavesAll};
 ghost use Rattle.ruffletuff.specs.Ends.{outcome_of};
 ghost use Rattle.ruffletuff.specs.Resumed.{AreResumed};
-ghost use Rattle.ruffletuff.specs.declared.city_end.CityEnd.TheVariants.{Ended};
 ghost use Rattle.server_durable.specs.Owners.{client_in};
 
 use crate::admin::AdminState;
-use crate::city_end::CityEnd;
 use crate::city_journals::CityJournals;
 use crate::counting::count_vehicles;
 use crate::host::{SendLog, SendSpace, ServerHost};
@@ -78,20 +76,20 @@ struct SiteServer<'a, K: HallName, N: LogName, L: Log, S: Space, R, P> {
 }
 
 /// Ends the city of a site that was served. Gives the log position of all that was appended, whose payloads are, client
-/// by client, the records of all turns; none where they aren't, by which `outcome_of` ends the server with `NotWhole`.
+/// by client, the records of all turns; it always is given.
 fn end_city<K: HallName, N: LogName, L: Log, S: Space, R: ServerHost, P: Drop>(
     rt: &R,
     site: Site<'_, K, N, L, S, R, Chunked<R>, P>,
 ) -> Option<LogPosition<N, L>>
-    ensures { IfSome result (LeavesAll K.configuration site.entry.state.city.hall.room_opening.front.seen.log
-        (map (λ desk. desk.opening.front.seen.log) site.entry.state.city.hall.desks.items)) }
+    ensures { LeavesAll K.configuration site.entry.state.city.hall.room_opening.front.seen.log
+        (map (λ desk. desk.opening.front.seen.log) site.entry.state.city.hall.desks.items) result }
 {
     let state = site.state;
     state.city.finish(rt)
 }
 
 /// Answers until the server is to end. Then it stops the commit log, so that the journal is written to its end, and ends
-/// the city, as `end_city`, where no connection holds it.
+/// the city, as `end_city`; `None` where a connection still holds it.
 ///
 /// # Errors
 ///
@@ -99,7 +97,7 @@ fn end_city<K: HallName, N: LogName, L: Log, S: Space, R: ServerHost, P: Drop>(
 fn serve_to_the_end<'a, K, N, L, S, R, P>(
     rt: &R,
     serving: SiteServer<'a, K, N, L, S, R, P>,
-) -> io::Result<CityEnd<Option<LogPosition<N, L>>>>
+) -> io::Result<Option<LogPosition<N, L>>>
 where
     K: SharedHallName,
     N: SharedLogName,
@@ -107,9 +105,8 @@ where
     S: SendSpace,
     R: ServerHost,
     P: PastJournals + Send + Sync,
-    ensures { IfOk result (λ end. IfEnded end (λ all. IfSome all
-        (LeavesAll K.configuration serving.entry.site.state.city.hall.room_opening.front.seen.log
-        (map (λ desk. desk.opening.front.seen.log) serving.entry.site.state.city.hall.desks.items)))) }
+    ensures { IfOk result (LeavesAll K.configuration serving.entry.site.state.city.hall.room_opening.front.seen.log
+        (map (λ desk. desk.opening.front.seen.log) serving.entry.site.state.city.hall.desks.items)) }
 {
     let SiteServer {
         listening,
@@ -125,22 +122,21 @@ where
     let ServeOutcome { answers, outcome } = ended?;
     let Some(site) = answers else {
         outcome?;
-        return Ok(CityEnd::Held);
+        return Ok(None);
     };
     let all = end_city(rt, site);
     outcome?;
-    Ok(CityEnd::Ended(all))
+    Ok(all)
 }
 
 /// Persists what a hall accepts in a log that continues this history, and serves the hall, whose room and desks are
-/// those that were started from what the log has. N names the history. Gives the log that it leaves, synced: it may be
-/// what it had, and behind that payloads which are, client by client, the records of all turns. Where a connection
-/// outlasted the server the city isn't ended, and no log is given.
+/// those that were started from the log. N names the history. Gives the log that it leaves, synced, whose payloads since
+/// then are, client by client, the records of all turns; `None` where a connection outlasted the server.
 ///
 /// # Errors
 ///
-/// `NoMemory`, `NoListener` where the polling of events failed, `NotKept` where the log couldn't be written any more,
-/// or `NotWhole` where the city was ended and the log isn't known to be of the records of all turns.
+/// `NoMemory`, `NoListener` where the polling of events failed, or `NotKept` where the log couldn't be written any
+/// more.
 pub fn persist_and_serve<K, N, L, S, R>(
     rt: &R,
     hall: Hall<K>,
@@ -148,7 +144,7 @@ pub fn persist_and_serve<K, N, L, S, R>(
     log: L,
     space: S,
     stage: ServingParts<'_>,
-) -> Result<CityEnd<SyncedLog<N, L>>, ExitCause>
+) -> Result<Option<SyncedLog<N, L>>, ExitCause>
 where
     K: SharedHallName,
     N: SharedLogName,
@@ -161,8 +157,8 @@ where
         hall.room_opening.front.seen.log (map (λ desk. desk.opening.front.seen.log) hall.desks.items) }
     requires space { S.aside space ≡ 0 }
     requires clients { N.client_of ≡ client_in K.configuration }
-    ensures { IfOk result (λ end. IfEnded end (LeavesAll K.configuration hall.room_opening.front.seen.log
-        (map (λ desk. desk.opening.front.seen.log) hall.desks.items))) }
+    ensures { IfOk result (LeavesAll K.configuration hall.room_opening.front.seen.log
+        (map (λ desk. desk.opening.front.seen.log) hall.desks.items)) }
 {
     let alloc = rt.alloc();
     count_vehicles(rt, &hall, stage.board.counters)?;
@@ -203,15 +199,15 @@ fn serve_durable_hall<'a, K, N, L, S, R>(
     keeper: &'a CommitLog<N, L, S>,
     flusher: Flusher<N, L>,
     stage: ServingParts<'a>,
-) -> Result<CityEnd<SyncedLog<N, L>>, ExitCause>
+) -> Result<Option<SyncedLog<N, L>>, ExitCause>
 where
     K: SharedHallName,
     N: SharedLogName,
     L: SendLog,
     S: SendSpace,
     R: ServerHost,
-    ensures { IfOk result (λ end. IfEnded end (LeavesAll K.configuration city.hall.room_opening.front.seen.log
-        (map (λ desk. desk.opening.front.seen.log) city.hall.desks.items))) }
+    ensures { IfOk result (LeavesAll K.configuration city.hall.room_opening.front.seen.log
+        (map (λ desk. desk.opening.front.seen.log) city.hall.desks.items)) }
 {
     let board = stage.board;
     let journals = CityJournals::new(*rt, rt.alloc(), stage.folder, stage.archive)?;
@@ -248,50 +244,61 @@ fn serve_site<'a, K, N, L, S, R>(
     rt: &R,
     flushing: FlusherJob<'a, N, L, S, R>,
     serving: SiteServer<'a, K, N, L, S, R, CityJournals<R>>,
-) -> Result<CityEnd<SyncedLog<N, L>>, ExitCause>
+) -> Result<Option<SyncedLog<N, L>>, ExitCause>
 where
     K: SharedHallName,
     N: SharedLogName,
     L: SendLog,
     S: SendSpace,
     R: ServerHost,
-    ensures { IfOk result (λ end. IfEnded end
-        (LeavesAll K.configuration serving.entry.site.state.city.hall.room_opening.front.seen.log
-        (map (λ desk. desk.opening.front.seen.log) serving.entry.site.state.city.hall.desks.items))) }
+    ensures { IfOk result (LeavesAll K.configuration serving.entry.site.state.city.hall.room_opening.front.seen.log
+        (map (λ desk. desk.opening.front.seen.log) serving.entry.site.state.city.hall.desks.items)) }
 {
     let (flushed, ended) = run_concurrently(rt, flushing, move || serve_to_the_end(rt, serving));
-    outcome_of(flushed, ended)
+    ended_log(flushed, ended)
 }
 
-/// How a server ended, by how its journal was written and how it left its city: the log is given where it is that of
-/// the ended city.
+/// The log that a server leaves which ended so, where it is that of its ended city.
 ///
 /// # Errors
 ///
-/// `NotKept` where the journal wasn't written to its end; else `NoListener` where the server couldn't be started or the
-/// polling of events failed; else `NotWhole` where the city ended and the log isn't that of its end.
-fn outcome_of<N: LogName, L: Log>(
+/// As `outcome_of`.
+fn ended_log<N: LogName, L: Log>(
     flushed: Result<SyncedLog<N, L>, FlushFault>,
-    ended: io::Result<CityEnd<Option<LogPosition<N, L>>>>,
-) -> Result<CityEnd<SyncedLog<N, L>>, ExitCause>
-    ensures outcome { result ≡ outcome_of flushed ended }
-    ensures whole { IfOk result (λ end. IfEnded end (λ texts. ended ≡ Ok (Ended (Some texts)))) }
+    ended: io::Result<Option<LogPosition<N, L>>>,
+) -> Result<Option<SyncedLog<N, L>>, ExitCause>
+    ensures whole { IfOk result (λ log. IfSome log (λ texts. ended ≡ Ok (Some texts))) }
+    ensures ended { OnOk result (outcome_of (is_ok flushed) (is_ok ended) ≡ Ok tt) }
+    ensures fault { IfErr result (λ cause. outcome_of (is_ok flushed) (is_ok ended) ≡ Err cause) }
 {
-    let Ok(log) = flushed else {
-        return Err(ExitCause::NotKept);
-    };
-    let Ok(end) = ended else {
-        return Err(ExitCause::NoListener);
-    };
-    let CityEnd::Ended(all) = end else {
-        return Ok(CityEnd::Held);
+    outcome_of(flushed.is_ok(), ended.is_ok())?;
+    let (Ok(log), Ok(all)) = (flushed, ended) else {
+        return Ok(None);
     };
     let Some(all) = all else {
-        return Err(ExitCause::NotWhole);
+        return Ok(None);
     };
     if log.position().is_of(&all) {
-        Ok(CityEnd::Ended(log))
+        Ok(Some(log))
     } else {
-        Err(ExitCause::NotWhole)
+        Ok(None)
+    }
+}
+
+/// How a server ended, by whether its journal was written to the end and whether it could be served.
+///
+/// # Errors
+///
+/// `NotKept` where the journal wasn't; else `NoListener` where the server couldn't be started or the polling of events
+/// failed.
+fn outcome_of(is_kept: bool, is_served: bool) -> Result<(), ExitCause>
+    ensures { result ≡ outcome_of is_kept is_served }
+{
+    if !is_kept {
+        Err(ExitCause::NotKept)
+    } else if !is_served {
+        Err(ExitCause::NoListener)
+    } else {
+        Ok(())
     }
 }
