@@ -1,16 +1,14 @@
 -- `jiff`'s offset of a rule is the defined one.
 use Rattle.std.proofs.Common.{◌≡◌, ℕ, ℤ, Bool, true, false, if◌then◌else◌, Option, Some, None, option_map, refl}
-use Rattle.jiff.specs.Words.{offset_at, tz_view}
 use Rattle.jiff_core.specs.declared.offset.Offset.{Offset}
-use Rattle.jiff_tz.specs.PosixText.{dst_view}
+use Rattle.jiff_tz.specs.PosixText.{dst_view, tz_view}
 use Rattle.jiff_tz.specs.PosixRule as Posix
 use Rattle.jiff_tz.specs.declared.posix.Dst.{Dst}
 use Rattle.jiff_tz.specs.declared.posix.TimeZone.{TimeZone}
-use Rattle.jiff_tz.specs.declared.timezone.TimeZone.{TimeZone as AnyZone}
 use Rattle.jiff_tz.specs.declared.timezone.TimeZone.TheVariants as zone
 use Rattle.jiff_tz.specs.Year.{year_of_nanos}
-use Rattle.mds_match.specs.ValidZone.{IsRule, rule_kind}
-use Rattle.mds_match.specs.Zone.{summer, rule_offset, instant_of, offset_in}
+use Rattle.jiff_tz.specs.Zone.{offset_at}
+use Rattle.mds_match.specs.Zone.{ruled, summer, rule_offset, instant_of, offset_in}
 
 -- daylight saving time of a year is `jiff`'s
 summer-is : (dst : Dst) (year : ℤ) (std : Offset) → summer (dst_view dst) year std.seconds ≡ Posix.utc_window dst year std
@@ -30,8 +28,7 @@ pub rule_offset-is : (rule : TimeZone) (n : ℤ) → rule_offset (tz_view rule) 
 unfolding rule_offset offset_at
 rule_offset-is rule n = by_dst rule.std_offset rule.dst n
 
--- the offset at a moment, for a zone that is a rule
-pub offset_in-is : (any : AnyZone) (moment : ℕ) → IsRule any → offset_at any (instant_of moment) ≡ offset_in (rule_kind any) moment
+-- the offset at a moment, by a rule
+pub offset_in-is : (rule : TimeZone) (moment : ℕ) → (Posix.offset_at rule (instant_of moment)).seconds ≡ offset_in (ruled (tz_view rule)) moment
 unfolding offset_at offset_in
-offset_in-is (zone.Posix rule) moment is = rw (rule_offset-is rule (instant_of moment)) refl
-offset_in-is other moment never = absurd never
+offset_in-is rule moment = rw (rule_offset-is rule (instant_of moment)) refl

@@ -3,8 +3,11 @@
 
 ghost use Rattle.std.specs.Prelude.{◌≡◌, ◌⊎◌, ◌+ℤ◌, ℕ, ℤ, ◌<◌, ◌≤◌, List, IsTrue, Some, None, Contains, length, slice_get, sum_by};
 ghost use Rattle.std.specs.List.{range_with_len};
-ghost use Rattle.jiff.specs.Words.{civil_nanos, nanos_of_seconds, offset_at, tz_view};
+ghost use Rattle.jiff_core.specs.DateTime.{civil_nanos};
+ghost use Rattle.jiff_core.specs.Timestamp.{nanos_of_seconds};
 ghost use Rattle.jiff_core.specs.declared.civil.datetime.DateTime.{DateTime};
+ghost use Rattle.jiff_tz.specs.PosixText.{tz_view};
+ghost use Rattle.jiff_tz.specs.Zone.{offset_at};
 ghost use Rattle.jiff_tz.specs.declared.posix.TimeZone.{TimeZone as PosixZone};
 ghost use Rattle.jiff_tz.specs.declared.timezone.TimeZone.TheVariants.{Posix};
 ghost use Rattle.mds_geometry.specs.declared.position.Position.{Position};

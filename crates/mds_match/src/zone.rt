@@ -1,12 +1,13 @@
 //! A time zone as a POSIX TZ rule, and the local time at a moment.
 ghost use Rattle.std.specs.Prelude.{◌≡◌, ◌≤ℤ◌, pos, negsuc, unsigned_abs, IfSome};
-ghost use Rattle.jiff.specs.Words.{plain_zone, offset_at, IsOffsetSeconds};
+ghost use Rattle.jiff_core.specs.Timestamp.{IsOffsetSeconds};
+ghost use Rattle.jiff_tz.specs.PosixRule.{offset_at};
 ghost use Rattle.mds_text.specs.Fault.{Gives};
 ghost use Rattle.mds_match.specs.Zone.{with_sign, offset_of, instant_of, local_at};
 
 use crate::local::Local;
-use jiff::Timestamp;
-use jiff::tz::TimeZone;
+use jiff_core::Timestamp;
+use jiff_tz::posix;
 use mds_text::{Moment, two_digits};
 use std::alloc::AllocError;
 use std::marker::Model;
@@ -35,7 +36,7 @@ pub enum ZoneFault {
 #[derive(Drop)]
 enum ZoneForm {
     Fixed(i64),
-    Rule(TimeZone<'static>),
+    Rule(posix::TimeZone),
 }
 
 /// A time zone: a fixed offset from UTC, or a rule as in POSIX's TZ variable. Contracts see the
@@ -80,7 +81,7 @@ impl Zone {
             let kind = ZoneForm::Fixed(offset);
             return Ok(Zone { kind });
         }
-        match TimeZone::posix(text) {
+        match posix::TimeZone::parse(text.as_bytes()) {
             Ok(rule) => {
                 let kind = ZoneForm::Rule(rule);
                 Ok(Zone { kind })
@@ -113,13 +114,13 @@ impl Zone {
     }
 }
 
-/// How far the clock of a zone is ahead of UTC at a moment, in seconds, as `jiff` converts it.
-fn rule_offset(zone: &TimeZone<'static>, at: Moment) -> i64
-    ensures value { result ≡ offset_at (plain_zone zone.now) (instant_of at) }
+/// How far the clock of a rule is ahead of UTC at a moment, in seconds, as `jiff` computes it.
+fn rule_offset(rule: &posix::TimeZone, at: Moment) -> i64
+    ensures value { result ≡ (offset_at rule.now (instant_of at)).seconds }
     ensures bounds { IsOffsetSeconds result }
 {
-    let instant = Timestamp::from_millisecond(at.get()).unwrap();
-    i64::from(zone.to_offset(instant).seconds())
+    let instant = Timestamp::from_nanosecond(i128::from(at.get()) * 1_000_000).unwrap();
+    i64::from(rule.to_offset(instant).seconds)
 }
 
 /// The local weekday and second of the day at an offset.

@@ -1,7 +1,7 @@
 use Rattle.std.proofs.Common.{◌≡◌, ◌∙◌, ◌≤ℤ◌, ℕ, ℤ, pos, negsuc, arith, refl, subst}
 use Rattle.std.proofs.lemmas.Int.{ints}
-use Rattle.jiff.specs.Words.{plain_zone, offset_at}
-use Rattle.jiff.specs.declared.tz.timezone.TimeZone.{TimeZone}
+use Rattle.jiff_tz.specs.PosixRule.{offset_at}
+use Rattle.jiff_tz.specs.declared.posix.TimeZone.{TimeZone}
 use Rattle.mds_match.specs.ValidZone.{zone_kind, IsKept}
 use Rattle.mds_match.specs.Zone.{ZoneKind, instant_of, offset_in}
 use Rattle.mds_match.specs.declared.zone.ZoneForm.{ZoneForm}
@@ -15,8 +15,8 @@ unfolding offset_in
 of_fixed offset kind zone moment is view_is = rw (← view_is, is) refl
 
 -- and so is the offset of the stored rule
-of_rule : (rule : TimeZone) (kind : ZoneForm) (zone : ZoneKind) (moment : ℕ) → kind ≡ Rule rule → IsKept kind → zone_kind kind ≡ zone → offset_at (plain_zone rule) (instant_of moment) ≡ offset_in zone moment
-of_rule rule kind zone moment is kept view_is = rw (← view_is, is) (offset_in-is (plain_zone rule) moment (subst IsKept is kept))
+of_rule : (rule : TimeZone) (kind : ZoneForm) (zone : ZoneKind) (moment : ℕ) → kind ≡ Rule rule → zone_kind kind ≡ zone → (offset_at rule (instant_of moment)).seconds ≡ offset_in zone moment
+of_rule rule kind zone moment is view_is = rw (← view_is, is) (offset_in-is rule moment)
 
 pub returns-in-Fixed-clause-value : goal.returns-in-Fixed-clause-value
 returns-in-Fixed-clause-value c =
@@ -25,4 +25,4 @@ returns-in-Fixed-clause-value c =
 
 pub returns-in-Rule-clause-value : goal.returns-in-Rule-clause-value
 returns-in-Rule-clause-value c =
-    omega (arith, ints) ∙ c.rule_offset.ensures.value ∙ of_rule c.in-Rule.rule c.self.inside.kind c.args.self.now c.args.at c.in-Rule.is c.self.invariant c.self.view_is
+    omega (arith, ints) ∙ c.rule_offset.ensures.value ∙ of_rule c.in-Rule.rule c.self.inside.kind c.args.self.now c.args.at c.in-Rule.is c.self.view_is
