@@ -348,7 +348,7 @@ impl<K: LogName, L: Log, S: Space> CommitLog<K, L, S> {
         ensures fault { OnErr result (group.new.items ≡ []) }
         ensures capacity { MOST_TEXTS ≤ vec_capacity group.new }
     {
-        let ended = self.rounds.ended();
+        let ended = self.rounds.last_ended();
         let mut backlog = self.more.wait_while(rt, self.backlog.lock(rt), |backlog| {
             backlog.round(ended) == Round::Wait && self.failed.failure().is_none()
         });

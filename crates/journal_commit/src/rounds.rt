@@ -56,7 +56,7 @@ impl Rounds {
     }
 
     /// The last round that ended well.
-    pub(crate) fn ended(&self) -> u64 {
+    pub(crate) fn last_ended(&self) -> u64 {
         self.ended.load(Ordering::SeqCst)
     }
 
@@ -69,7 +69,7 @@ impl Rounds {
     pub(crate) fn is_confirmed(&self, after: Option<u64>) -> bool
         ensures { after ≡ None → result ≡ true }
     {
-        is_confirmed(after, self.ended())
+        is_confirmed(after, self.last_ended())
     }
 }
 

@@ -56,7 +56,7 @@ impl<R: DialHost> TcpMember<'_, R> {
     /// # Errors
     ///
     /// `TimedOut` where there is none; the clock's.
-    fn left(&self) -> io::Result<Duration> {
+    fn time_left(&self) -> io::Result<Duration> {
         match left_of(self.until, self.rt.monotonic()?) {
             Some(left) => Ok(left),
             None => Err(ErrorKind::TimedOut.into()),
@@ -66,7 +66,7 @@ impl<R: DialHost> TcpMember<'_, R> {
 
 impl<R: DialHost> Read for TcpMember<'_, R> {
     fn read(&mut self, buf: &mut [u8]) -> io::Result<usize> {
-        let left = self.left()?;
+        let left = self.time_left()?;
         self.stream.set_read_timeout(Some(left))?;
         self.stream.read(buf)
     }
@@ -74,7 +74,7 @@ impl<R: DialHost> Read for TcpMember<'_, R> {
 
 impl<R: DialHost> Write for TcpMember<'_, R> {
     fn write(&mut self, buf: &[u8]) -> io::Result<usize> {
-        let left = self.left()?;
+        let left = self.time_left()?;
         self.stream.set_write_timeout(Some(left))?;
         self.stream.write(buf)
     }

@@ -106,7 +106,7 @@ impl MemoryEngine {
     }
 
     /// A message that was sent comes.
-    fn come_late(&mut self, index: Option<usize>)
+    fn deliver_late(&mut self, index: Option<usize>)
         ensures goes { Goes any_owner (is_sent self.new.messages.items) (register_of self.old.register) (register_of self.new.register) }
         ensures messages { self.new.messages ≡ self.old.messages }
     {
@@ -117,7 +117,7 @@ impl MemoryEngine {
             return;
         };
         self.register
-            .come(self.alloc, &message.transaction, &message.bytes);
+            .receive(self.alloc, &message.transaction, &message.bytes);
     }
 
     /// The message that is due comes, where one is.
@@ -127,38 +127,38 @@ impl MemoryEngine {
     {
         let due = self.due;
         self.due = None;
-        self.come_late(due);
+        self.deliver_late(due);
     }
 
     /// The message that was held back comes, where one was.
-    fn come_held(&mut self)
+    fn deliver_held(&mut self)
         ensures goes { Goes any_owner (is_sent self.new.messages.items) (register_of self.old.register) (register_of self.new.register) }
         ensures messages { self.new.messages ≡ self.old.messages }
     {
         let held = self.held;
         self.held = None;
-        self.come_late(held);
+        self.deliver_late(held);
     }
 
     /// An owner with this nonce claims the register.
-    fn come_claim(&mut self, nonce: u64)
+    fn deliver_claim(&mut self, nonce: u64)
         ensures goes { Goes any_owner (is_sent self.new.messages.items) (register_of self.old.register) (register_of self.new.register) }
         ensures messages { self.new.messages ≡ self.old.messages }
     {
         if let Some(claim) = Transaction::claim(self.register.owner, nonce) {
-            self.register.come(self.alloc, &claim, &[]);
+            self.register.receive(self.alloc, &claim, &[]);
         }
     }
 
     /// What comes before a message that is carried so, or a question.
-    fn come_before(&mut self, delivery: Delivery)
+    fn deliver_before(&mut self, delivery: Delivery)
         ensures goes { Goes any_owner (is_sent self.new.messages.items) (register_of self.old.register) (register_of self.new.register) }
         ensures messages { self.new.messages ≡ self.old.messages }
     {
         self.settle();
         match delivery {
-            Delivery::BehindHeld => self.come_held(),
-            Delivery::BehindClaim(nonce) => self.come_claim(nonce),
+            Delivery::BehindHeld => self.deliver_held(),
+            Delivery::BehindClaim(nonce) => self.deliver_claim(nonce),
             _ => {}
         }
     }
@@ -205,11 +205,11 @@ impl MemoryEngine {
             result (register_of self.old.register) (register_of self.new.register) }
         ensures messages { self.new.messages ≡ self.old.messages }
     {
-        self.come_before(delivery);
+        self.deliver_before(delivery);
         if is_lost(delivery) {
             return Answer::Missing;
         }
-        let answer = self.register.come(self.alloc, transaction, bytes);
+        let answer = self.register.receive(self.alloc, transaction, bytes);
         if delivery == Delivery::LostAnswer {
             return Answer::Missing;
         }
@@ -222,7 +222,7 @@ impl MemoryEngine {
         ensures messages { self.new.messages ≡ self.old.messages }
     {
         let delivery = self.next_delivery();
-        self.come_before(delivery);
+        self.deliver_before(delivery);
         !is_lost(delivery) && delivery != Delivery::LostAnswer
     }
 }

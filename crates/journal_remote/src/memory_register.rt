@@ -100,7 +100,7 @@ impl MemoryRegister {
 
     /// A message comes: it is done where all that it compares holds, and answered. Without memory, at the last
     /// revision, and where it doesn't keep to the protocol, it is lost.
-    pub fn come(&mut self, alloc: Global, transaction: &Transaction, bytes: &[u8]) -> Answer
+    pub fn receive(&mut self, alloc: Global, transaction: &Transaction, bytes: &[u8]) -> Answer
         ensures { Comes (record { transaction = transaction.now; bytes = bytes.now }) result (register_of self.old) (register_of self.new) }
     {
         if self.revision == u64::MAX || !is_lawful(transaction) {

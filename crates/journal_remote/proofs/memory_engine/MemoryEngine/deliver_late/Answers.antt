@@ -5,7 +5,7 @@ use Rattle.journal_register.specs.Register.{Message}
 use Rattle.journal_remote.specs.declared.memory_engine.MemoryMessage.{MemoryMessage}
 use Rattle.journal_remote.specs.Memory.{message_of, register_of, is_sent}
 use Rattle.journal_remote.proofs.Memory.{goes_one, sent_at}
-use Rattle.journal_remote.proofs.memory_engine.MemoryEngine.come_late.Goals as goal
+use Rattle.journal_remote.proofs.memory_engine.MemoryEngine.deliver_late.Goals as goal
 
 pub returns-clause-goes : goal.returns-clause-goes
 returns-clause-goes c =
@@ -20,4 +20,4 @@ returns-clause-goes c =
     let found : slice_get xs c.in-Some.index ≡ Some x =
     ap (λ (zs : List MemoryMessage). slice_get zs c.in-Some.index) (sym c.deref.ensures.value) ∙ there in
     let sent : is_sent xs m ≡ true = subst (λ (n : Message). is_sent xs n ≡ true) same (sent_at xs c.in-Some.index x found) in
-    goes_one (is_sent xs) m c.come.result (register_of now.register) (register_of c.come.new.self) c.come.ensures (λ own. sent)
+    goes_one (is_sent xs) m c.receive.result (register_of now.register) (register_of c.receive.new.self) c.receive.ensures (λ own. sent)

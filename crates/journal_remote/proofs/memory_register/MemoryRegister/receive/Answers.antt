@@ -4,7 +4,7 @@ use Rattle.journal_remote.specs.declared.memory_register.ChunkWrite.{ChunkWrite}
 use Rattle.journal_remote.specs.declared.memory_register.MemoryRegister.{MemoryRegister}
 use Rattle.journal_remote.specs.Memory.{register_of}
 use Rattle.journal_remote.proofs.Memory.{comes_done, comes_failed}
-use Rattle.journal_remote.proofs.memory_register.MemoryRegister.come.Goals as goal
+use Rattle.journal_remote.proofs.memory_register.MemoryRegister.receive.Goals as goal
 
 pub returns-then-not-holds : goal.returns-then-not-holds
 returns-then-not-holds c =
