@@ -1,4 +1,4 @@
-//! Encoders of the fields of payloads.
+//! Encoders of single fields, of which entries and heads are made.
 ghost use Rattle.std.specs.Prelude.{◌≡◌, ◌++◌, OnOk};
 ghost use Rattle.journal_entry.specs.Entries.{moment_text, size_text, id_text, client_text, verb_code};
 

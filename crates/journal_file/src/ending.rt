@@ -1,4 +1,4 @@
-//! How a file ends after its whole records.
+//! How a file ends behind its whole records: well, with a torn tail, or damaged.
 ghost use Rattle.std.specs.Prelude.{◌≡◌, ◌+◌, ◌^◌, ◌<◌, ◌≤◌, length};
 ghost use Rattle.journal_file.specs.Endings.{is_torn_record, is_short_of, unexplained, without_records, ending_of, is_opened};
 

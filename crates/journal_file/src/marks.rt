@@ -1,4 +1,4 @@
-//! Marks: payloads that say how far the file was synced, to tell a torn tail from damage.
+//! Marks: payloads that say how far the file was synced.
 ghost use Rattle.std.specs.Prelude.{◌≡◌, ◌+◌, ◌^◌, ◌<◌, ◌++◌, length, IfOk, OnOk, OnErr, option_map};
 ghost use Rattle.journal_file.specs.Sum.{sum_over};
 ghost use Rattle.journal_file.specs.Records.{record_of};

@@ -1,4 +1,4 @@
-//! Polygons with holes (RFC 7946, section 3.1.6).
+//! Polygons with holes (RFC 7946, section 3.1.6), and which positions they hold.
 ghost use Rattle.std.specs.Prelude.{◌≡◌, [], false};
 ghost use Rattle.mds_geometry.specs.Inside.{holds};
 

@@ -1,5 +1,5 @@
-//! The server's limits for its connections. A head has at most 64 KiB, which is the limit of the
-//! HTTP framing itself, and a body at most `mds_request::MOST_BODY` bytes.
+//! The server's limits for its connections, request bodies and queues. A head has at most 64 KiB,
+//! which is the limit of the HTTP framing itself, and a body at most `mds_request::MOST_BODY` bytes.
 ghost use Rattle.std.specs.Prelude.{◌≡◌};
 ghost use Rattle.mds_request.specs.declared.call.TheConstants.{MOST_BODY};
 

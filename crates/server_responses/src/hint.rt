@@ -1,4 +1,4 @@
-//! What the refusal of a request names.
+//! What the header field of a refusal is made from: the methods of its path.
 ghost use Rattle.std.specs.Prelude.{◌≡◌, option_map};
 ghost use Rattle.mds_request.specs.Call.{segments_in};
 ghost use Rattle.server_responses.specs.Methods.{methods_at, text_of};

@@ -1,4 +1,4 @@
-//! The methods of a path.
+//! The methods of a path, as the `allow` of a 405 lists them.
 ghost use Rattle.std.specs.Prelude.{◌≡◌, ◌∷◌, [], IsTrue, codes, option_map};
 ghost use Rattle.std.specs.List.{slice_split};
 ghost use Rattle.http_header.specs.FieldValue.{is_visible_text};

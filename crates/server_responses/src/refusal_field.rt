@@ -1,4 +1,4 @@
-//! A refusal with its header field.
+//! A refusal with its header field: the `allow` of a 405, the scheme of a 401.
 ghost use Rattle.std.specs.Prelude.{◌≡◌, IfOk, IsTrue};
 ghost use Rattle.std.specs.Option.{is_some};
 ghost use Rattle.http_header.specs.FieldValue.{is_visible_text};
