@@ -5,7 +5,7 @@ ghost use Rattle.cli_report_command.specs.Parts.{IsPartOf};
 
 use crate::report_files::{ReportBytes, ReportFiles};
 use crate::report_rows::{operator_report, report_end, report_head};
-use crate::report_samples::{JournalFault, OperatorSamples, ReportJournal, sample_operator};
+use crate::report_samples::{OperatorSamples, ReportJournal, SamplingFault, sample_operator};
 use cli_journal::ExitCause;
 use cli_report::{ReportHead, ReportedOperator};
 use journal_recovery::{Cause, Fault};
@@ -64,7 +64,7 @@ struct Written {
 }
 
 /// Why the program ends where a journal can't be sampled. The moments of a report ascend.
-fn exit_of_sampling(fault: JournalFault) -> ExitCause {
+fn exit_of_sampling(fault: SamplingFault) -> ExitCause {
     match fault.fault {
         SampleFault::Refused(entry, status) => ExitCause::ReportEntry(
             fault.folder,

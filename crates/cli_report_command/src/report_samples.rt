@@ -31,7 +31,7 @@ impl ReportJournal<'_> {
 
 /// Why a journal can't be sampled.
 #[derive(Clone, Copy, Debug, PartialEq, Eq)]
-pub struct JournalFault {
+pub struct SamplingFault {
     /// The number of its folder among those of the report, from 0.
     pub folder: usize,
     /// What is wrong.
@@ -93,7 +93,7 @@ impl<'a> OperatorSamples<'a> {
         place: usize,
         journal: &ReportJournal<'_>,
         moments: &[Moment],
-    ) -> Result<(), JournalFault>
+    ) -> Result<(), SamplingFault>
         requires { place < length (configuration config.now).operators }
         ensures { OnOk result (self.new.samples.items ≡ self.old.samples.items
             ++ samples_by (new_standing (configuration config.now) place) (map entry_of journal.now.entries.items) moments.now) }
@@ -107,7 +107,7 @@ impl<'a> OperatorSamples<'a> {
                 self.replay = replay;
                 Ok(())
             }
-            Err(fault) => Err(JournalFault {
+            Err(fault) => Err(SamplingFault {
                 folder: journal.folder,
                 fault,
             }),
@@ -128,13 +128,13 @@ pub fn sample_operator<'a>(
     place: usize,
     journals: &[ReportJournal<'_>],
     moments: &[Moment],
-) -> Result<OperatorSamples<'a>, JournalFault>
+) -> Result<OperatorSamples<'a>, SamplingFault>
     requires { place < length (configuration config.now).operators }
     ensures { IfOk result (λ s. s.samples.items ≡ samples_told (new_standing (configuration config.now) place)
         (map (λ j. map entry_of j.entries.items) journals.now) moments.now) }
 {
     let Ok(replay) = OperatorReplay::new(alloc, config, place) else {
-        return Err(JournalFault {
+        return Err(SamplingFault {
             folder: 0,
             fault: SampleFault::NoMemory,
         });

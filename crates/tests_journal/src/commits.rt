@@ -2,7 +2,7 @@
 ghost use Rattle.std.specs.Prelude.{◌≡◌, ℕ, List, [], IfOk};
 ghost use Rattle.tests_journal.specs.declared.commits.TheConstants.{AUTHOR};
 
-use crate::runtime::{JoinRuntime, TestRuntime, WaitingRuntime};
+use crate::runtime::{JoinRuntime, JournalRuntime, WaitingRuntime};
 use futures::FutureExt;
 use futures::executor::block_on;
 use journal_commit::{
@@ -63,7 +63,7 @@ fn text(rt: &impl AllocGlobal, text: &[u8]) -> Result<Vec<u8>, AllocError> {
 }
 
 /// Checks why no reservation is made for a payload of a client, or that one is made, which is released.
-fn expect_fault<K: LogName, L: Log, R: TestRuntime>(
+fn expect_fault<K: LogName, L: Log, R: JournalRuntime>(
     rt: &R,
     keeper: &CommitLog<K, L, CountedSpace>,
     client: usize,
@@ -279,13 +279,13 @@ fn reservations_are_bounded(rt: HostRuntime) -> Result<(), Fail> {
     expect_bounds_over_journal(&rt)
 }
 
-fn expect_bounds_over_journal<R: TestRuntime>(rt: &R) -> Result<(), Fail> {
+fn expect_bounds_over_journal<R: JournalRuntime>(rt: &R) -> Result<(), Fail> {
     let (log, opened) = new_journal(rt, 3)?;
     expect_bounds::<Brand, Journal<MemoryStorage>, R>(rt, opened, log)
 }
 
 /// Tries reservations where there is room for one record of three bytes, which takes 59.
-fn expect_bounds<K: LogName, L: Log, R: TestRuntime>(
+fn expect_bounds<K: LogName, L: Log, R: JournalRuntime>(
     rt: &R,
     opened: UnnamedHistory<L>,
     log: L,
@@ -331,7 +331,7 @@ fn many_reservations_are_settled_together(rt: HostRuntime) -> Result<(), Fail> {
     expect_settlement_over_journal(&rt)
 }
 
-fn expect_settlement_over_journal<R: TestRuntime>(rt: &R) -> Result<(), Fail> {
+fn expect_settlement_over_journal<R: JournalRuntime>(rt: &R) -> Result<(), Fail> {
     let (log, opened) = new_journal(rt, 3)?;
     expect_settlement::<Brand, Journal<MemoryStorage>, R>(rt, opened, log)
 }
@@ -347,7 +347,7 @@ fn texts(rt: &impl AllocGlobal, count: usize) -> Result<Vec<Vec<u8>>, AllocError
 
 /// Tries reservations of several records where there is room for two of three bytes, which take 118.
 #[tactic(auto, using(crate::proofs::Alone::all_are))]
-fn expect_settlement<K: LogName, L: Log, R: TestRuntime>(
+fn expect_settlement<K: LogName, L: Log, R: JournalRuntime>(
     rt: &R,
     opened: UnnamedHistory<L>,
     log: L,
@@ -405,14 +405,14 @@ fn reservations_are_shared_out(rt: HostRuntime) -> Result<(), Fail> {
     expect_shares_over_journal(&rt)
 }
 
-fn expect_shares_over_journal<R: TestRuntime>(rt: &R) -> Result<(), Fail> {
+fn expect_shares_over_journal<R: JournalRuntime>(rt: &R) -> Result<(), Fail> {
     let (log, opened) = new_journal(rt, 3)?;
     expect_shares::<Brand, Journal<MemoryStorage>, R>(rt, opened, log)
 }
 
 /// Appends so many payloads from the share of a client, which wait for the flusher, or returns why they aren't reserved.
 #[tactic(auto, using(crate::proofs::Alone::all_are))]
-fn append_waiting<K: LogName, L: Log, R: TestRuntime>(
+fn append_waiting<K: LogName, L: Log, R: JournalRuntime>(
     rt: &R,
     keeper: &CommitLog<K, L, CountedSpace>,
     sole: &mut SoleClient<K, L>,
@@ -431,7 +431,7 @@ fn append_waiting<K: LogName, L: Log, R: TestRuntime>(
 }
 
 /// Checks why so many payloads aren't reserved from the share of a client, or that they are, and wait for the flusher.
-fn expect_waiting<K: LogName, L: Log, R: TestRuntime>(
+fn expect_waiting<K: LogName, L: Log, R: JournalRuntime>(
     rt: &R,
     keeper: &CommitLog<K, L, CountedSpace>,
     sole: &mut SoleClient<K, L>,
@@ -444,7 +444,7 @@ fn expect_waiting<K: LogName, L: Log, R: TestRuntime>(
 }
 
 /// Checks that the share of a client can be used up.
-fn expect_full_share<K: LogName, L: Log, R: TestRuntime>(
+fn expect_full_share<K: LogName, L: Log, R: JournalRuntime>(
     rt: &R,
     keeper: &CommitLog<K, L, CountedSpace>,
     sole: &mut SoleClient<K, L>,
@@ -455,7 +455,7 @@ fn expect_full_share<K: LogName, L: Log, R: TestRuntime>(
 }
 
 /// Three clients use up their shares, and a fourth all but a reservation for each of two others.
-fn expect_shares<K: LogName, L: Log, R: TestRuntime>(
+fn expect_shares<K: LogName, L: Log, R: JournalRuntime>(
     rt: &R,
     opened: UnnamedHistory<L>,
     log: L,

@@ -1,7 +1,7 @@
 //! Compaction of a journal on a disk that fails at each of its calls.
 use crate::disk::{Disk, FailingCalls, JournalOnDisk, NewFileStorage};
 use crate::journal::{COMPACTED, OLD, texts};
-use crate::runtime::TestRuntime;
+use crate::runtime::JournalRuntime;
 use journal_compaction::{CompactFault, Counts, SourceJournal, compact_at};
 use journal_file::Journal;
 use journal_folder::{ArchiveFault, FolderFault};
@@ -91,7 +91,7 @@ fn compact_on<R: Wait>(rt: &R, alloc: Global, disk: &Disk) -> CompactionOutcome 
 
 /// Compacts with one allocation that may be refused: then the outcome is `NoMemory`, the old journal is still there,
 /// and a second call succeeds. `None` where the allocation was one of the test's own.
-fn compacts<R: TestRuntime>(rt: &R) -> Option<()> {
+fn compacts<R: JournalRuntime>(rt: &R) -> Option<()> {
     let alloc = rt.alloc();
     let old = texts(alloc, OLD)?;
     let thinned = texts(alloc, COMPACTED)?;
@@ -123,7 +123,7 @@ fn has_archived(rt: &impl Abort, disk: &Disk, texts: &[Vec<u8>]) -> bool {
 /// or the compacted one, where it was renamed and it isn't known whether that is synced. A second call on the mended
 /// disk succeeds, and then the compacted journal is there. Whichever journal was replaced is archived, and its compaction
 /// recorded; it is also where the file couldn't be renamed then.
-fn fails<R: TestRuntime>(rt: &R, calls: u32, failing: FailingCalls) {
+fn fails<R: JournalRuntime>(rt: &R, calls: u32, failing: FailingCalls) {
     let alloc = rt.alloc();
     let old = texts(alloc, OLD).expect(rt, "a journal");
     let thinned = texts(alloc, COMPACTED).expect(rt, "a thinned journal");

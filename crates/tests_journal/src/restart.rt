@@ -3,7 +3,7 @@ ghost use Rattle.std.specs.Prelude.{◌≡◌};
 ghost use Rattle.mds_snapshot.specs.Opening.{book_of};
 
 use crate::journal::{TimedExchange, configuration, entries, request};
-use crate::runtime::TestRuntime;
+use crate::runtime::JournalRuntime;
 use journal_recovery::{SilentProgress, start_again};
 use mds_desk::{AuthorRoom, Desk, OpenGate, SharedReply};
 use mds_request::Config;
@@ -61,7 +61,7 @@ fn desk_replies<K: OpeningName>(
 
 /// Checks that a room and desks reply as those that wrote the journal, and ends the room: the desks know what was
 /// published, and alfa's has both vehicles; the room goes on at the next revision.
-pub(crate) fn expect_replies<K: OpeningName, R: TestRuntime>(
+pub(crate) fn expect_replies<K: OpeningName, R: JournalRuntime>(
     rt: &R,
     room: AuthorRoom<K>,
     desks: Vec<Desk<K>>,
@@ -77,7 +77,7 @@ pub(crate) fn expect_replies<K: OpeningName, R: TestRuntime>(
 }
 
 /// Checks that a room and desks replayed from a journal reply as those that wrote it.
-fn go_on<K: OpeningName, R: TestRuntime>(
+fn go_on<K: OpeningName, R: JournalRuntime>(
     rt: &R,
     config: Config,
     blank: Blank,

@@ -22,7 +22,7 @@ const MOST_TURNS: u32 = 50_000_000;
 
 /// Flags between a flusher's thread and another.
 #[derive(Drop)]
-struct Signals {
+struct RoundSignals {
     /// Whether a sync has begun.
     has_begun: AtomicBool,
     /// Whether syncs may end.
@@ -33,7 +33,7 @@ struct Signals {
 #[derive(Drop)]
 struct HeldStorage<'a> {
     memory: MemoryStorage,
-    signals: &'a Signals,
+    signals: &'a RoundSignals,
 }
 
 impl Storage for HeldStorage<'_> {
@@ -80,7 +80,7 @@ fn begin_round<K: LogName, L: Log, R: JoinRuntime>(
     rt: &R,
     keeper: &Arc<CommitLog<K, L, CountedSpace>>,
     nothing: &LogPosition<K, L>,
-    signals: &Signals,
+    signals: &RoundSignals,
 ) -> Result<bool, Fail> {
     for _ in 0..MOST_TURNS {
         if signals.has_begun.load(Ordering::SeqCst) {
@@ -98,7 +98,7 @@ fn ask_during_round<K: LogName, L: Log, R: JoinRuntime>(
     rt: &R,
     keeper: &Arc<CommitLog<K, L, CountedSpace>>,
     nothing: &LogPosition<K, L>,
-    signals: &Signals,
+    signals: &RoundSignals,
 ) -> Result<Option<Result<u32, CommitFault>>, Fail> {
     if !begin_round(rt, keeper, nothing, signals)? {
         return Ok(None);
@@ -113,7 +113,7 @@ fn serve_rounds<K, L, R>(
     rt: &R,
     opened: UnnamedHistory<L>,
     log: L,
-    signals: &Signals,
+    signals: &RoundSignals,
 ) -> Result<(Result<L, FlushFault>, Option<Result<u32, CommitFault>>), Fail>
 where
     K: SharedLogName,
@@ -147,7 +147,7 @@ where
 }
 
 /// Empty storage of ten calls, whose syncs wait for these signals.
-fn held_storage<'a>(alloc: Global, signals: &'a Signals) -> HeldStorage<'a>
+fn held_storage<'a>(alloc: Global, signals: &'a RoundSignals) -> HeldStorage<'a>
     ensures { result.memory.bytes.items ≡ [] }
 {
     HeldStorage {
@@ -163,7 +163,7 @@ fn held_storage<'a>(alloc: Global, signals: &'a Signals) -> HeldStorage<'a>
 /// A journal there that has nothing yet, and the history that continues it.
 fn held_journal<'a, R: AllocGlobal>(
     rt: &R,
-    signals: &'a Signals,
+    signals: &'a RoundSignals,
 ) -> Result<
     (
         Journal<HeldStorage<'a>>,
@@ -186,7 +186,7 @@ fn held_journal<'a, R: AllocGlobal>(
 fn rounds_over_journal<R: JoinRuntime>(
     rt: &R,
 ) -> Result<(Option<u32>, Option<Result<u32, CommitFault>>), Fail> {
-    let signals = Signals {
+    let signals = RoundSignals {
         has_begun: AtomicBool::new(false),
         may_end: AtomicBool::new(true),
     };

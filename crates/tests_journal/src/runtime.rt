@@ -17,9 +17,9 @@ pub trait WaitingRuntime: TestHost + Wait {}
 impl<R: TestHost + Wait> WaitingRuntime for R {}
 
 /// The runtime of a test on one thread.
-pub trait TestRuntime: WaitingRuntime + Abort {}
+pub trait JournalRuntime: WaitingRuntime + Abort {}
 
-impl<R: WaitingRuntime + Abort> TestRuntime for R {}
+impl<R: WaitingRuntime + Abort> JournalRuntime for R {}
 
 /// The runtime of a test whose threads work side by side.
 pub trait JoinRuntime: WaitingRuntime + Threads {}

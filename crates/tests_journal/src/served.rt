@@ -5,7 +5,7 @@ ghost use Rattle.mds_snapshot.specs.Opening.{book_of};
 
 use crate::journal::{TimedExchange, configuration, texts};
 use crate::restart::{JOURNAL, expect_replies};
-use crate::runtime::TestRuntime;
+use crate::runtime::JournalRuntime;
 use journal_commit::{CountedSpace, NoRoom, Space};
 use journal_file::{Journal, Log, MemoryStorage, are_taken, group_of};
 use journal_folder::begin_journal;
@@ -35,9 +35,9 @@ const LOW: &[u8] =
 const ALFA: &str = "00000000-0000-4000-8000-0000000000a1";
 
 /// The runtime of a test that replays a log.
-trait ReplayRuntime: TestRuntime + ReportingHost {}
+trait ReplayRuntime: JournalRuntime + ReportingHost {}
 
-impl<R: TestRuntime + ReportingHost> ReplayRuntime for R {}
+impl<R: JournalRuntime + ReportingHost> ReplayRuntime for R {}
 
 /// Counters of a server without connections and operators.
 fn zero_counters(alloc: Global) -> Result<Counters, AllocError> {
@@ -140,9 +140,9 @@ fn is_resumed_without<R: ReplayRuntime>(rt: &R, operator: &str) -> bool {
 
 /// Gives a number.
 #[derive(Drop)]
-struct Number(u8);
+struct NumberJob(u8);
 
-impl ThreadJob for Number {
+impl ThreadJob for NumberJob {
     type Outcome = u8;
 
     fn run(self) -> u8 {
@@ -180,5 +180,5 @@ fn reports_what_the_disk_refuses(rt: HostRuntime) {
 
 #[test]
 fn a_job_runs_beside(rt: HostRuntime) {
-    assert!(rt; run_concurrently(&rt, Number(3), || 4u8) == (3, 4));
+    assert!(rt; run_concurrently(&rt, NumberJob(3), || 4u8) == (3, 4));
 }

@@ -17,7 +17,7 @@ struct Step {
 
 /// A connection that is expected: to which address, and what is asked over it. One without steps isn't taken.
 #[derive(Clone, Copy)]
-struct Connection {
+struct ScriptedConnection {
     address: &'static str,
     steps: &'static [Step],
 }
@@ -26,7 +26,7 @@ struct Connection {
 #[derive(Drop)]
 struct Members {
     alloc: Global,
-    connections: &'static [Connection],
+    connections: &'static [ScriptedConnection],
 }
 
 /// A connection to a member in memory.
@@ -163,41 +163,41 @@ const FOREIGN_KEYS: &[Step] = &[Step {
 }];
 
 /// The members that are asked: one that fails, one that takes no connection, and one that answers.
-const IN_TURN: &[Connection] = &[
-    Connection {
+const IN_TURN: &[ScriptedConnection] = &[
+    ScriptedConnection {
         address: "a:1",
         steps: FIRST_MEMBER,
     },
-    Connection {
+    ScriptedConnection {
         address: "b:1",
         steps: &[],
     },
-    Connection {
+    ScriptedConnection {
         address: "c:1",
         steps: THIRD_MEMBER,
     },
 ];
 
 /// One member, which breaks off.
-const ONE_BROKEN_OFF: &[Connection] = &[Connection {
+const ONE_BROKEN_OFF: &[ScriptedConnection] = &[ScriptedConnection {
     address: "a:1",
     steps: BROKEN_OFF,
 }];
 
 /// One member, which ends a token.
-const TWO_TOKENS: &[Connection] = &[
-    Connection {
+const TWO_TOKENS: &[ScriptedConnection] = &[
+    ScriptedConnection {
         address: "a:1",
         steps: ENDED_TOKEN,
     },
-    Connection {
+    ScriptedConnection {
         address: "a:1",
         steps: NEW_TOKEN,
     },
 ];
 
 /// One member, which refuses.
-const ONE_REFUSAL: &[Connection] = &[Connection {
+const ONE_REFUSAL: &[ScriptedConnection] = &[ScriptedConnection {
     address: "a:1",
     steps: FOREIGN_KEYS,
 }];
