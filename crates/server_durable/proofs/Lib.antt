@@ -4,6 +4,7 @@ mod Clients
 pub mod Cities
 mod Cutting
 mod Kept
+mod Left
 mod ListedRuns
 mod Logging
 mod Own

@@ -10,6 +10,7 @@ use Rattle.mds_request.specs.Request.{Request}
 use Rattle.mds_request.specs.Reply.{Reply}
 use Rattle.mds_request.specs.declared.config.Actor.TheVariants.{Operator}
 use Rattle.server_admission.specs.Actor.{index_of}
+use Rattle.server_state.specs.Openings.{BeginsAt, Openings}
 use Rattle.server_state.specs.Turn.{IsDeskAt}
 use Rattle.server_state.specs.TurnItem.{TurnItem, Ran}
 use Rattle.server_state.specs.TurnList.{AreTurnsOf, opened_as}
@@ -17,20 +18,25 @@ use Rattle.server_durable.specs.Logged.{ShowsTurns, exchanges_in}
 use Rattle.server_durable.specs.Many.{exchanges}
 use Rattle.server_durable.specs.ManyAnswers.{EndsInRun, IsListedRun}
 use Rattle.server_durable.specs.Owners.{client_in}
+use Rattle.server_state.proofs.Openings.{begins_more}
 use Rattle.server_durable.proofs.Logging.{exchanges_more}
 use Rattle.server_durable.proofs.Reports.{exchanges_on}
 
-module _ (configuration : Configuration) (client_of : List ℕ → ℕ) (place : ℕ) where
-  -- the progress: these are the last turns of a desk's list, none of which is missing, and the log position shows it
+module _ (configuration : Configuration) (openings : Openings) (client_of : List ℕ → ℕ) (place : ℕ) where
+  -- the progress: these are the last turns of a desk's list, which begins as the desk was put behind its lock, none of
+  -- which is missing, and the log position shows it
   pub record AreListed (requests : List Request) (replies : List Reply) (stamp : List (List ℕ)) (lost : Bool) (items : List TurnItem) : Type 0 where
     pub before : List TurnItem
     pub own : List TurnItem
     pub cut : items ≡ before ++ own
     pub asked : exchanges_in own ≡ exchanges requests replies
+    pub begins : BeginsAt openings place items
     pub shows : (requests ≡ []) ⊎ ((lost ≡ false) × ∥ ShowsTurns configuration client_of (index_of (Operator place)) items stamp ∥₁)
 
-  pub listed_none : (replies : List Reply) (stamp : List (List ℕ)) (lost : Bool) (items : List TurnItem) → AreListed [] replies stamp lost items
-  listed_none replies stamp lost items = record { before = items; own = []; cut = sym (append-nil items); asked = refl; shows = inl refl }
+  pub listed_none : (replies : List Reply) (stamp : List (List ℕ)) (lost : Bool) (items : List TurnItem) → BeginsAt openings place items
+      → AreListed [] replies stamp lost items
+  listed_none replies stamp lost items begins =
+      record { before = items; own = []; cut = sym (append-nil items); asked = refl; begins = begins; shows = inl refl }
 
   -- a run more
   pub listed_more : (requests more : List Request) (replies others : List Reply) (stamp later : List (List ℕ)) (lost missing : Bool) (items all : List TurnItem)
@@ -45,17 +51,19 @@ module _ (configuration : Configuration) (client_of : List ℕ → ℕ) (place :
         asked =
             exchanges_more was.own run ∙ ap (λ (history : List Exchange). exchanges_in was.own ++ history) (append-nil (exchanges more others))
             ∙ ap (λ (history : List Exchange). history ++ exchanges more others) was.asked ∙ sym (exchanges_on requests more replies others same);
+        begins = begins_more openings place items run all was.begins ends.1;
         shows = inr (ends.0, shows);
       }
 
   -- an empty run is behind a desk's empty list
   none_listed : (requests : List Request) (replies : List Reply) (stamp : List (List ℕ)) (d : DeskState) → IsDeskAt configuration place d → requests ≡ []
-      → IsListedRun configuration place requests replies d stamp
+      → IsListedRun configuration openings place requests replies d stamp
   none_listed requests replies stamp d its none =
       record {
         before = opened_as d;
         own = [];
         asked = sym (ap (λ (rs : List Request). exchanges rs replies) none);
+        begins = inl none;
         turns = ∣ record { first = d; events = []; is_its = its; items_are = refl; becomes = refl } ∣₁;
         shows = ∣ record { texts = []; logged = tt; shown = (_, refl) } ∣₁;
       }
@@ -63,7 +71,7 @@ module _ (configuration : Configuration) (client_of : List ℕ → ℕ) (place :
   -- so they are behind a desk whose list this is
   pub listed_run : (requests : List Request) (replies : List Reply) (stamp : List (List ℕ)) (lost : Bool) (items : List TurnItem) (d : DeskState) (at : ℕ)
       → client_of ≡ client_in configuration → d.configuration ≡ configuration → d.place ≡ at → at ≡ place
-      → ∥ (lost ≡ false → AreTurnsOf configuration at items d) ∥₁ → AreListed requests replies stamp lost items → IsListedRun configuration place requests replies d stamp
+      → ∥ (lost ≡ false → AreTurnsOf configuration at items d) ∥₁ → AreListed requests replies stamp lost items → IsListedRun configuration openings place requests replies d stamp
   listed_run requests replies stamp lost items d at named configured placed here are was =
       elim was.shows [
         | inl none ↦ none_listed requests replies stamp d (record { configured = configured; placed = placed ∙ here }) none
@@ -72,6 +80,7 @@ module _ (configuration : Configuration) (client_of : List ℕ → ℕ) (place :
               before = was.before;
               own = was.own;
               asked = was.asked;
+              begins = inr (subst (λ (xs : List TurnItem). BeginsAt openings place xs) was.cut was.begins);
               turns =
                   subst (λ (p : ℕ). ∥ AreTurnsOf configuration p (was.before ++ was.own) d ∥₁) here
                   (∥∥₁_map are (λ turns. subst (λ (xs : List TurnItem). AreTurnsOf configuration at xs d) was.cut (turns whole.0)));

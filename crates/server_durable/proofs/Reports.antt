@@ -18,6 +18,7 @@ use Rattle.journal_laws.specs.Persisted.{requests_in}
 use Rattle.mds_desk.specs.Desk.{DeskState, TakesRun}
 use Rattle.mds_desk.proofs.Running.{begins}
 use Rattle.server_state.specs.Response.{Says}
+use Rattle.server_state.specs.Openings.{Openings}
 use Rattle.server_state.specs.Turn.{IsDeskAt, TakesToldRun}
 use Rattle.server_durable.specs.Many.{AreRecorded, AreRecordsOf, AreRefusedBehind, Continues, IsHalted}
 use Rattle.server_durable.specs.Many.{IsRefusedWhole, SaysAll, accepted, exchanges, reports_of}
@@ -162,10 +163,10 @@ reached_more configuration place requests replies stamp now (request ∷ more) n
           (recorded_later configuration (exchanges requests replies) stamp later further.longer reached.recorded) further.recorded);
     }
 
-run_of : (configuration : Configuration) (place : ℕ) (requests : List Request) (replies : List Reply) (stamp : List (List ℕ)) (now : DeskState)
-    → Reached configuration place requests replies stamp now → IsListedRun configuration place requests replies now stamp
-    → IsRecordedRun configuration place requests replies stamp
-run_of configuration place requests replies stamp now reached listed =
+run_of : (configuration : Configuration) (openings : Openings) (place : ℕ) (requests : List Request) (replies : List Reply) (stamp : List (List ℕ)) (now : DeskState)
+    → Reached configuration place requests replies stamp now → IsListedRun configuration openings place requests replies now stamp
+    → IsRecordedRun configuration openings place requests replies stamp
+run_of configuration openings place requests replies stamp now reached listed =
     record {
       run = record { before = reached.start; after = now; is_its = reached.is_its; run = reached.run };
       recorded = reached.recorded;
@@ -173,10 +174,10 @@ run_of configuration place requests replies stamp now reached listed =
     }
 
 -- all are answered
-pub all_answered : (configuration : Configuration) (place : ℕ) (requests : List Request) (replies : List Reply) (stamp : List (List ℕ)) (now : DeskState)
-    → Reached configuration place requests replies stamp now → IsListedRun configuration place requests replies now stamp
-    → IsAnsweredInPart configuration place requests replies stamp
-all_answered configuration place requests replies stamp now reached listed =
+pub all_answered : (configuration : Configuration) (openings : Openings) (place : ℕ) (requests : List Request) (replies : List Reply) (stamp : List (List ℕ)) (now : DeskState)
+    → Reached configuration place requests replies stamp now → IsListedRun configuration openings place requests replies now stamp
+    → IsAnsweredInPart configuration openings place requests replies stamp
+all_answered configuration openings place requests replies stamp now reached listed =
     record {
       asked = requests;
       unasked = [];
@@ -184,15 +185,15 @@ all_answered configuration place requests replies stamp now reached listed =
       own = replies;
       others = [];
       told = sym (append-nil replies);
-      run = run_of configuration place requests replies stamp now reached listed;
+      run = run_of configuration openings place requests replies stamp now reached listed;
       rest = inl (refl, refl);
     }
 
 -- a prefix is answered, and the others are refused
-pub some_answered : (configuration : Configuration) (place : ℕ) (requests rest : List Request) (replies others all : List Reply) (stamp : List (List ℕ)) (now : DeskState)
-    → Reached configuration place requests replies stamp now → IsListedRun configuration place requests replies now stamp
-    → all ≡ replies ++ others → AreRefusedBehind rest others → IsAnsweredInPart configuration place (requests ++ rest) all stamp
-some_answered configuration place requests rest replies others all stamp now reached listed is refuses =
+pub some_answered : (configuration : Configuration) (openings : Openings) (place : ℕ) (requests rest : List Request) (replies others all : List Reply) (stamp : List (List ℕ)) (now : DeskState)
+    → Reached configuration place requests replies stamp now → IsListedRun configuration openings place requests replies now stamp
+    → all ≡ replies ++ others → AreRefusedBehind rest others → IsAnsweredInPart configuration openings place (requests ++ rest) all stamp
+some_answered configuration openings place requests rest replies others all stamp now reached listed is refuses =
     record {
       asked = requests;
       unasked = rest;
@@ -200,53 +201,53 @@ some_answered configuration place requests rest replies others all stamp now rea
       own = replies;
       others = others;
       told = is;
-      run = run_of configuration place requests replies stamp now reached listed;
+      run = run_of configuration openings place requests replies stamp now reached listed;
       rest = inr refuses;
     }
 
 -- the same of a result that says so
-pub some_answered_of : {V E : Type 0} (replies : V → List Reply) (stamp : V → List (List ℕ)) (configuration : Configuration) (place : ℕ) (requests rest whole : List Request)
+pub some_answered_of : {V E : Type 0} (replies : V → List Reply) (stamp : V → List (List ℕ)) (configuration : Configuration) (openings : Openings) (place : ℕ) (requests rest whole : List Request)
     (so_far : List Reply) (texts : List (List ℕ)) (now : DeskState) (result : Result V E) → whole ≡ requests ++ rest → Reached configuration place requests so_far texts now
-    → IsListedRun configuration place requests so_far now texts
+    → IsListedRun configuration openings place requests so_far now texts
     → IfOk result (λ all. (others : List Reply) × (replies all ≡ so_far ++ others) × AreRefusedBehind rest others × (stamp all ≡ texts))
-    → IfOk result (λ all. IsAnsweredInPart configuration place whole (replies all) (stamp all))
-some_answered_of replies stamp configuration place requests rest whole so_far texts now result is reached listed refuses =
+    → IfOk result (λ all. IsAnsweredInPart configuration openings place whole (replies all) (stamp all))
+some_answered_of replies stamp configuration openings place requests rest whole so_far texts now result is reached listed refuses =
     ok_more result (λ all behind.
-    subst (λ (ts : List (List ℕ)). IsAnsweredInPart configuration place whole (replies all) ts) (sym behind.3)
-    (subst (λ (rs : List Request). IsAnsweredInPart configuration place rs (replies all) texts) (sym is)
-    (some_answered configuration place requests rest so_far behind.0 (replies all) texts now reached listed behind.1 behind.2))) refuses
+    subst (λ (ts : List (List ℕ)). IsAnsweredInPart configuration openings place whole (replies all) ts) (sym behind.3)
+    (subst (λ (rs : List Request). IsAnsweredInPart configuration openings place rs (replies all) texts) (sym is)
+    (some_answered configuration openings place requests rest so_far behind.0 (replies all) texts now reached listed behind.1 behind.2))) refuses
 
 -- ---- the response
 
-module _ {V E : Type 0} (reply : V → Option (Response (Full (List ℕ)))) (stamp : V → List (List ℕ)) (configuration : Configuration) (place : ℕ) (request : Request) where
+module _ {V E : Type 0} (reply : V → Option (Response (Full (List ℕ)))) (stamp : V → List (List ℕ)) (configuration : Configuration) (openings : Openings) (place : ℕ) (request : Request) where
   -- the body is refused as a whole
   pub told_whole : (result : Result V E) (code : Code) → IsRefusedWhole request code → IfOk result (λ s. Waits (λ response. Says response (refused code)) (reply s))
-      → IfOk result (λ s. Waits (ManyAreAnswered configuration place request (stamp s)) (reply s))
+      → IfOk result (λ s. Waits (ManyAreAnswered configuration openings place request (stamp s)) (reply s))
   told_whole result code why told = ok_more result (λ s. waits_more (reply s) (λ response says. inl (inr (code, why, says)))) told
 
   -- they are answered
   pub told_run : (result : Result V E) (requests : List Request) (replies : List Reply) (texts : List (List ℕ)) → requests ≡ reports_of request
-      → IsAnsweredInPart configuration place requests replies texts
+      → IsAnsweredInPart configuration openings place requests replies texts
       → IfOk result (λ s. Waits (λ response. SaysAll response replies) (reply s)) → IfOk result (λ s. stamp s ≡ texts)
-      → IfOk result (λ s. Waits (ManyAreAnswered configuration place request (stamp s)) (reply s))
+      → IfOk result (λ s. Waits (ManyAreAnswered configuration openings place request (stamp s)) (reply s))
   told_run (Ok s) requests replies texts are answered says is =
-      let here = subst (λ (ts : List (List ℕ)). IsAnsweredInPart configuration place requests replies ts) (sym is) answered in (
+      let here = subst (λ (ts : List (List ℕ)). IsAnsweredInPart configuration openings place requests replies ts) (sym is) answered in (
         says.0,
         says.1,
         says.2,
         says.3,
         inr (record {
           replies = replies;
-          answered = subst (λ (rs : List Request). IsAnsweredInPart configuration place rs replies (stamp s)) are here;
+          answered = subst (λ (rs : List Request). IsAnsweredInPart configuration openings place rs replies (stamp s)) are here;
           says = says.4;
         }),
       )
   told_run (Err e) requests replies texts are answered says is = tt
 
 -- none of them is carried out
-pub told_halted : {V : Type 0} (reply : V → Option (Response (Full (List ℕ)))) (stamp : V → List (List ℕ)) (configuration : Configuration) (place : ℕ) (request : Request)
-    (result : Result V NoResponse) (halt : Halt) → IsHalted reply halt result → IfOk result (λ s. Waits (ManyAreAnswered configuration place request (stamp s)) (reply s))
-told_halted reply stamp configuration place request result (Unheld why) told =
+pub told_halted : {V : Type 0} (reply : V → Option (Response (Full (List ℕ)))) (stamp : V → List (List ℕ)) (configuration : Configuration) (openings : Openings) (place : ℕ) (request : Request)
+    (result : Result V NoResponse) (halt : Halt) → IsHalted reply halt result → IfOk result (λ s. Waits (ManyAreAnswered configuration openings place request (stamp s)) (reply s))
+told_halted reply stamp configuration openings place request result (Unheld why) told =
     ok_more result (λ s. waits_more (reply s) (λ response says. inl (inl (why, says)))) told
-told_halted reply stamp configuration place request result (NotTold fault) untold =
-    subst (λ r. IfOk r (λ s. Waits (ManyAreAnswered configuration place request (stamp s)) (reply s))) (sym untold) tt
+told_halted reply stamp configuration openings place request result (NotTold fault) untold =
+    subst (λ r. IfOk r (λ s. Waits (ManyAreAnswered configuration openings place request (stamp s)) (reply s))) (sym untold) tt

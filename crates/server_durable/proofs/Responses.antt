@@ -22,6 +22,7 @@ use Rattle.mds_request.specs.declared.config.Actor.TheVariants.{Author, Operator
 use Rattle.mds_request.proofs.Callers.{call_of-caller}
 use Rattle.server_state.specs.Early.{or_else, unheard, unknown}
 use Rattle.server_state.specs.HttpRequest.{request_in, target_of, token_of}
+use Rattle.server_state.specs.Openings.{Openings}
 use Rattle.server_state.specs.Resolved.{call_in}
 use Rattle.server_state.specs.Respond as hall
 use Rattle.server_state.specs.Respond.{TurnGives}
@@ -35,9 +36,9 @@ use Rattle.server_durable.specs.Refusals.{SaysUnheld}
 use Rattle.server_durable.specs.CacheControl.{Waits}
 use Rattle.server_routes.specs.declared.app.AppCall.{AppCall}
 
-module _ (configuration : Configuration) (request : Request) (stamp : List (List ℕ)) (response : Response (Full (List ℕ))) where
+module _ (configuration : Configuration) (openings : Openings) (request : Request) (stamp : List (List ℕ)) (response : Response (Full (List ℕ))) where
   -- the reply of a turn is that of the room or the desk whose call it is
-  one_is : (call : Call) → call_of configuration request ≡ Ok call → IsAnsweredBy configuration (actor_of configuration request.token) request stamp response
+  one_is : (call : Call) → call_of configuration request ≡ Ok call → IsAnsweredBy configuration openings (actor_of configuration request.token) request stamp response
       → SaysUnheld response ⊎ hall.IsAnsweredAs configuration request response (Ok call)
   one_is call is (inl unheld) = inl unheld
   one_is (OfAuthor own) is (inr carried) =
@@ -45,7 +46,7 @@ module _ (configuration : Configuration) (request : Request) (stamp : List (List
   one_is (OfOperator place own) is (inr carried) =
       inr (carried.reply, subst (λ who. TurnGives configuration who request carried.reply) (call_of-caller configuration request (OfOperator place own) is) carried.turn.turn, carried.says)
 
-  called_is : (called : Result Call Code) → call_of configuration request ≡ called → IsAnsweredAs configuration (actor_of configuration request.token) request stamp response called
+  called_is : (called : Result Call Code) → call_of configuration request ≡ called → IsAnsweredAs configuration openings (actor_of configuration request.token) request stamp response called
       → SaysUnheld response ⊎ hall.IsAnsweredAs configuration request response called
   called_is (Ok call) is answered = one_is call is answered
   called_is (Err code) is says = inr says
@@ -65,23 +66,23 @@ within_limit Broken moment is = absurd cc
 within_limit TooLong moment is = absurd cc
 within_limit NoMemory moment is = absurd cc
 
-module _ (configuration : Configuration) (badges : Badges) (parts : Parts) (arrived : Arrived) (stamp : List (List ℕ)) (response : Response (Full (List ℕ))) where
+module _ (configuration : Configuration) (openings : Openings) (badges : Badges) (parts : Parts) (arrived : Arrived) (stamp : List (List ℕ)) (response : Response (Full (List ℕ))) where
   abbrev asked : ℕ → Request
   asked moment = request_in parts (body_in arrived) moment
 
-  of_client : (moment : ℕ) → app_of (asked moment) ≡ None → IsAnswered configuration badges (asked moment) stamp response
+  of_client : (moment : ℕ) → app_of (asked moment) ≡ None → IsAnswered configuration openings badges (asked moment) stamp response
       → SaysUnheld response ⊎ hall.IsAnswered configuration (asked moment) response
   of_client moment plain told =
       let actor = actor_of configuration (asked moment).token in
       let called = call_of configuration (asked moment) in
-      called_is configuration (asked moment) stamp response called refl
-      (none_is (IsAnsweredAs configuration actor (asked moment) stamp response called)
-      (λ (call : Result AppCall Code). IsTold configuration badges actor (asked moment) call stamp response) (app_of (asked moment)) plain told)
+      called_is configuration openings (asked moment) stamp response called refl
+      (none_is (IsAnsweredAs configuration openings actor (asked moment) stamp response called)
+      (λ (call : Result AppCall Code). IsTold configuration openings badges actor (asked moment) call stamp response) (app_of (asked moment)) plain told)
 
   -- an anonymous client is refused by the table of calls too
   by_client : (moment : ℕ) → call_of configuration (asked moment) ≡ call_in configuration parts → app_of (asked moment) ≡ None
       → (who : Actor) → actor_of configuration (token_of parts.headers) ≡ who
-      → MatchOption (unknown who) (IsAnswered configuration badges (asked moment) stamp response) (λ code. Says response (refused code))
+      → MatchOption (unknown who) (IsAnswered configuration openings badges (asked moment) stamp response) (λ code. Says response (refused code))
       → SaysUnheld response ⊎ hall.IsAnswered configuration (asked moment) response
   by_client moment calls plain Nobody asks says =
       let called = ap (λ who. called_at who (verb_of parts.method) (segments_of (target_of parts.uri))) asks in
@@ -90,7 +91,7 @@ module _ (configuration : Configuration) (badges : Badges) (parts : Parts) (arri
   by_client moment calls plain (Operator place) asks told = of_client moment plain told
 
   by_moment : (at : Option ℕ) → unheard arrived at ≡ None → ((moment : ℕ) → app_of (asked moment) ≡ None)
-      → MatchOption (unknown (actor_of configuration (token_of parts.headers))) (IfSome at (λ moment. IsAnswered configuration badges (asked moment) stamp response))
+      → MatchOption (unknown (actor_of configuration (token_of parts.headers))) (IfSome at (λ moment. IsAnswered configuration openings badges (asked moment) stamp response))
       (λ code. Says response (refused code))
       → SaysUnheld response ⊎ IfSome at (λ moment. hall.IsAnswered configuration (asked moment) response)
   by_moment None is plain told = inr tt
@@ -99,14 +100,14 @@ module _ (configuration : Configuration) (badges : Badges) (parts : Parts) (arri
       (actor_of configuration (token_of parts.headers)) refl told
 
   by_first : (at : Option ℕ) (first : Option Code) → unheard arrived at ≡ first → ((moment : ℕ) → app_of (asked moment) ≡ None)
-      → MatchOption (or_else first (unknown (actor_of configuration (token_of parts.headers)))) (IfSome at (λ moment. IsAnswered configuration badges (asked moment) stamp response))
+      → MatchOption (or_else first (unknown (actor_of configuration (token_of parts.headers)))) (IfSome at (λ moment. IsAnswered configuration openings badges (asked moment) stamp response))
       (λ code. Says response (refused code))
       → SaysUnheld response ⊎ MatchOption first (IfSome at (λ moment. hall.IsAnswered configuration (asked moment) response)) (λ code. Says response (refused code))
   by_first at (Some code) is plain says = inr says
   by_first at None is plain told = by_moment at is plain told
 
   -- where what is needed of the log is reserved, the response to a call of the protocol is a hall's
-  pub as_a_hall : (at : Option ℕ) → ((moment : ℕ) → app_of (asked moment) ≡ None) → Answers configuration badges parts arrived at stamp response
+  pub as_a_hall : (at : Option ℕ) → ((moment : ℕ) → app_of (asked moment) ≡ None) → Answers configuration openings badges parts arrived at stamp response
       → SaysUnheld response ⊎ hall.Responds configuration parts arrived at response
   as_a_hall at plain answers = by_first at (unheard arrived at) refl plain answers
 
@@ -144,11 +145,11 @@ waits_kind Kind Other reply result imply says =
     ok_more result (λ s. waits_more (reply s) (λ response one. (one.0, told_more imply one.0 one.1, one.2))) says
 
 -- the response to a request is the reply of its recorded turn
-pub waits_turn : {V E : Type 0} (reply : V → Option (Response (Full (List ℕ)))) (stamp : V → List (List ℕ)) (configuration : Configuration) (actor : Actor) (request : Request)
+pub waits_turn : {V E : Type 0} (reply : V → Option (Response (Full (List ℕ)))) (stamp : V → List (List ℕ)) (configuration : Configuration) (openings : Openings) (actor : Actor) (request : Request)
     (result : Result V E) (told : Reply) (texts : List (List ℕ)) → IsRecordedTurn configuration actor request told texts
-    → IsListed configuration actor request told texts → IfOk result (λ s. Waits (λ response. Says response told) (reply s)) → IfOk result (λ s. stamp s ≡ texts)
-    → IfOk result (λ s. Waits (IsAnsweredBy configuration actor request (stamp s)) (reply s))
-waits_turn reply stamp configuration actor request (Ok s) told texts turn listed says is = (
+    → IsListed configuration openings actor request told texts → IfOk result (λ s. Waits (λ response. Says response told) (reply s)) → IfOk result (λ s. stamp s ≡ texts)
+    → IfOk result (λ s. Waits (IsAnsweredBy configuration openings actor request (stamp s)) (reply s))
+waits_turn reply stamp configuration openings actor request (Ok s) told texts turn listed says is = (
   says.0,
   says.1,
   says.2,
@@ -156,8 +157,8 @@ waits_turn reply stamp configuration actor request (Ok s) told texts turn listed
   inr (record {
     reply = told;
     turn = subst (IsRecordedTurn configuration actor request told) (sym is) turn;
-    listed = subst (IsListed configuration actor request told) (sym is) listed;
+    listed = subst (IsListed configuration openings actor request told) (sym is) listed;
     says = says.4;
   }),
 )
-waits_turn reply stamp configuration actor request (Err e) told texts turn listed says is = tt
+waits_turn reply stamp configuration openings actor request (Err e) told texts turn listed says is = tt

@@ -1,4 +1,5 @@
 -- The author's records grow with the turns of its room.
+use mathlib.Core.List.{IsPrefix}
 use Rattle.std.proofs.Common.{◌≡◌, ℕ, Bool, false, List, [], ◌∷◌, ◌++◌, length, Option, Some, None, IfSome, IsSomeAnd, MatchOption, Result, Ok, Err, IfOk, option_map, refl, sym, ap, subst, ◌∙◌, length-append, arith}
 use Rattle.std.proofs.Math.Logic.{∥∥₁_elim, ∥∥₁_map, ∥∥₁_map₂, ∥∥₁_prop}
 use Rattle.std.proofs.lemmas.List.{append-nil}
@@ -12,6 +13,7 @@ use Rattle.mds_request.specs.declared.config.Actor.TheVariants.{Author}
 use Rattle.server_admission.specs.Actor.{index_of}
 use Rattle.server_state.specs.RoomTurns.{AreRoomTurnsOf, IsToldRoomTurn, room_items, room_opened_as}
 use Rattle.server_state.specs.TurnItem.{TurnItem, Answered}
+use Rattle.server_state.proofs.Openings.{prefix_more}
 use Rattle.server_durable.specs.Logged.{AreLogged, OwnsTurns, ShowsTurns}
 use Rattle.server_durable.specs.Owners.{appended_by}
 use Rattle.server_durable.specs.Records.{IsReserved, place_of}
@@ -156,6 +158,12 @@ module _ {T : Type 0} (configuration : Configuration) (client_of : List ℕ → 
   told_of_room None r whole are listed = tt
   told_of_room (Some t) r whole are listed = told_last_of_room configuration before (items t) request reply r are (whole.1 ∙ listed whole.0)
 
+  -- behind the turns before it
+  pub behind_of_room : (turns : Option T) → IfSome turns (λ t. (lost ≡ false) × (items t ≡ now)) → (lost ≡ false → now ≡ before ++ Answered request reply ∷ [])
+      → IfSome turns (λ t. items t ≡ before ++ Answered request reply ∷ [])
+  behind_of_room None whole listed = tt
+  behind_of_room (Some t) whole listed = whole.1 ∙ listed whole.0
+
   -- and the author's records are those of all of that once the turn's record is completed
   pub will_own : (turns : Option T) (reserved : CallReservation) (own : Own) → IfSome turns (λ t. (lost ≡ false) × (items t ≡ now))
       → (lost ≡ false → now ≡ before ++ Answered request reply ∷ []) → ∥ OwnsTurns configuration client_of own before ∥₁ → IsReserved configuration request reserved
@@ -163,20 +171,24 @@ module _ {T : Type 0} (configuration : Configuration) (client_of : List ℕ → 
   will_own None reserved own whole listed owns is = tt
   will_own (Some t) reserved own whole listed owns is = turn_more configuration client_of own before (items t) request reply reserved owns is (whole.1 ∙ listed whole.0)
 
-module _ {T V : Type 0} (configuration : Configuration) (client_of : List ℕ → ℕ) (items : T → List TurnItem) (answer : V → Reply) (position : V → List (List ℕ)) where
+module _ {T V : Type 0} (configuration : Configuration) (client_of : List ℕ → ℕ) (items : T → List TurnItem) (answer : V → Reply) (position : V → List (List ℕ))
+    (opening before : List TurnItem) (begun : IsPrefix opening before) where
   of_turns : (request : Request) (reply : Reply) (turns : Option T) (v : V) → answer v ≡ reply
       → IfSome turns (λ t. ∥ IsToldRoomTurn configuration request reply (items t) ∥₁)
+      → IfSome turns (λ t. items t ≡ before ++ Answered request reply ∷ [])
       → IsSomeAnd turns (λ t. ∥ ShowsTurns configuration client_of (index_of Author) (items t) (position v) ∥₁)
-      → ∥ IsLoggedRoomTurn configuration client_of request (answer v) (position v) ∥₁
-  of_turns request reply None v same told showing = absurd showing
-  of_turns request reply (Some t) v same told showing =
-      subst (λ (r : Reply). ∥ IsLoggedRoomTurn configuration client_of request r (position v) ∥₁) (sym same)
-      (∥∥₁_map₂ told showing (λ last shown. record { items = items t; told = last; shows = shown }))
+      → ∥ IsLoggedRoomTurn configuration client_of opening request (answer v) (position v) ∥₁
+  of_turns request reply None v same told behind showing = absurd showing
+  of_turns request reply (Some t) v same told behind showing =
+      let begins : IsPrefix opening (items t) = prefix_more opening before (Answered request reply ∷ []) (items t) begun behind in
+      subst (λ (r : Reply). ∥ IsLoggedRoomTurn configuration client_of opening request r (position v) ∥₁) (sym same)
+      (∥∥₁_map₂ told showing (λ last shown. record { items = items t; begins = begins; told = last; shows = shown }))
 
   -- what is told of a turn of the room and its record
   pub logged_outcome : {E : Type 0} (request : Request) (reply : Reply) (turns : Option T) (outcome : Result V E) → IfOk outcome (λ v. answer v ≡ reply)
       → IfSome turns (λ t. ∥ IsToldRoomTurn configuration request reply (items t) ∥₁)
+      → IfSome turns (λ t. items t ≡ before ++ Answered request reply ∷ [])
       → IfOk outcome (λ v. IsSomeAnd turns (λ t. ∥ ShowsTurns configuration client_of (index_of Author) (items t) (position v) ∥₁))
-      → IfOk outcome (λ v. ∥ IsLoggedRoomTurn configuration client_of request (answer v) (position v) ∥₁)
-  logged_outcome request reply turns (Ok v) same told showing = of_turns request reply turns v same told showing
-  logged_outcome request reply turns (Err e) same told showing = tt
+      → IfOk outcome (λ v. ∥ IsLoggedRoomTurn configuration client_of opening request (answer v) (position v) ∥₁)
+  logged_outcome request reply turns (Ok v) same told behind showing = of_turns request reply turns v same told behind showing
+  logged_outcome request reply turns (Err e) same told behind showing = tt

@@ -15,6 +15,7 @@ use Rattle.mds_request.specs.declared.code.Code.{Code}
 use Rattle.mds_request.specs.declared.code.Code.TheVariants.{Role}
 use Rattle.mds_request.specs.declared.config.Actor.{Actor}
 use Rattle.mds_request.specs.declared.config.Actor.TheVariants.{Author, Operator, Nobody}
+use Rattle.server_state.specs.Openings.{Openings}
 use Rattle.server_state.specs.HttpRequest.{request_in, target_of, token_of}
 use Rattle.server_state.specs.Client.{IsWithin}
 use Rattle.server_state.specs.Early.{or_else, unheard, unknown}
@@ -134,39 +135,39 @@ module _ (configuration : Configuration) (request : Request) (call : Result Stat
 -- ---- the response
 
 -- the response by what the head is resolved to
-abbrev pub Gives : Configuration → Badges → Actor → Request → List (List ℕ) → Response (Full (List ℕ)) → Result StateCall Code → Type 0
-Gives configuration badges actor request stamp response (Ok (OfProtocol call)) = IsAnsweredBy configuration actor request stamp response
-Gives configuration badges actor request stamp response (Ok (Reports place)) = ManyAreAnswered configuration place request stamp response
-Gives configuration badges actor request stamp response (Ok (AuthorAsks question)) = SaysTold (TellsAuthor configuration badges question) response
-Gives configuration badges actor request stamp response (Ok (OperatorAsks place question)) = SaysTold (TellsOperator configuration badges place question) response
-Gives configuration badges actor request stamp response (Ok (AsksFleet question)) = SaysOne (IsFleetReply configuration badges request.at question) response
-Gives configuration badges actor request stamp response (Err code) = Says response (refused code)
+abbrev pub Gives : Configuration → Openings → Badges → Actor → Request → List (List ℕ) → Response (Full (List ℕ)) → Result StateCall Code → Type 0
+Gives configuration openings badges actor request stamp response (Ok (OfProtocol call)) = IsAnsweredBy configuration openings actor request stamp response
+Gives configuration openings badges actor request stamp response (Ok (Reports place)) = ManyAreAnswered configuration openings place request stamp response
+Gives configuration openings badges actor request stamp response (Ok (AuthorAsks question)) = SaysTold (TellsAuthor configuration badges question) response
+Gives configuration openings badges actor request stamp response (Ok (OperatorAsks place question)) = SaysTold (TellsOperator configuration badges place question) response
+Gives configuration openings badges actor request stamp response (Ok (AsksFleet question)) = SaysOne (IsFleetReply configuration badges request.at question) response
+Gives configuration openings badges actor request stamp response (Err code) = Says response (refused code)
 
-module _ (configuration : Configuration) (badges : Badges) (request : Request) (stamp : List (List ℕ)) (response : Response (Full (List ℕ))) where
+module _ (configuration : Configuration) (openings : Openings) (badges : Badges) (request : Request) (stamp : List (List ℕ)) (response : Response (Full (List ℕ))) where
   -- an anonymous client is refused for its token; otherwise the path says what the response is
   abbrev Tells : Actor → Option (Result AppCall Code) → Type 0
   Tells actor found =
       MatchOption (unknown actor)
-      (MatchOption found (IsAnsweredAs configuration actor request stamp response (call_of configuration request)) (λ call. IsTold configuration badges actor request call stamp response))
+      (MatchOption found (IsAnsweredAs configuration openings actor request stamp response (call_of configuration request)) (λ call. IsTold configuration openings badges actor request call stamp response))
       (λ code. Says response (refused code))
 
   module _ (calls : call_of configuration request ≡ called_at (actor_of configuration request.token) request.verb (segments_of request.target)) where
     -- what the table of calls refuses is told without a turn
-    as_call : (actor : Actor) (called : Result Call Code) → Gives configuration badges actor request stamp response (own_call called)
-        → IsAnsweredAs configuration actor request stamp response called
+    as_call : (actor : Actor) (called : Result Call Code) → Gives configuration openings badges actor request stamp response (own_call called)
+        → IsAnsweredAs configuration openings actor request stamp response called
     as_call actor (Ok call) gives = gives
     as_call actor (Err code) says = says
 
     by_call : (actor : Actor) → actor_of configuration request.token ≡ actor
-        → Gives configuration badges actor request stamp response (own_call (called_at actor request.verb (segments_of request.target)))
-        → IsAnsweredAs configuration actor request stamp response (call_of configuration request)
+        → Gives configuration openings badges actor request stamp response (own_call (called_at actor request.verb (segments_of request.target)))
+        → IsAnsweredAs configuration openings actor request stamp response (call_of configuration request)
     by_call actor asks gives =
         let called = called_at actor request.verb (segments_of request.target) in
-        subst (IsAnsweredAs configuration actor request stamp response)
+        subst (IsAnsweredAs configuration openings actor request stamp response)
         (sym (calls ∙ ap (λ who. called_at who request.verb (segments_of request.target)) asks)) (as_call actor called gives)
 
     tells : (actor : Actor) (found : Option (Result AppCall Code)) → actor_of configuration request.token ≡ actor
-        → Gives configuration badges actor request stamp response (way actor found (called_at actor request.verb (segments_of request.target)))
+        → Gives configuration openings badges actor request stamp response (way actor found (called_at actor request.verb (segments_of request.target)))
         → Tells actor found
     tells Nobody None asks says = says
     tells Nobody (Some call) asks says = says
@@ -189,44 +190,44 @@ module _ (configuration : Configuration) (badges : Badges) (request : Request) (
     tells (Operator place) (Some (Ok NoOperator)) asks says = says
 
   told_by : (call : Result StateCall Code) → IsResolved configuration request call
-      → Gives configuration badges (actor_of configuration request.token) request stamp response call → Tells (actor_of configuration request.token) (app_of request)
+      → Gives configuration openings badges (actor_of configuration request.token) request stamp response call → Tells (actor_of configuration request.token) (app_of request)
   told_by call head gives =
       let actor = actor_of configuration request.token in
-      tells head.called actor (app_of request) refl (subst (Gives configuration badges actor request stamp response) head.is_it gives)
+      tells head.called actor (app_of request) refl (subst (Gives configuration openings badges actor request stamp response) head.is_it gives)
 
-module _ (configuration : Configuration) (badges : Badges) (parts : Parts) (arrived : Arrived) (stamp : List (List ℕ)) (response : Response (Full (List ℕ))) where
+module _ (configuration : Configuration) (openings : Openings) (badges : Badges) (parts : Parts) (arrived : Arrived) (stamp : List (List ℕ)) (response : Response (Full (List ℕ))) where
   -- the response to a request that can be made of head and body is the answer to it
   heard_answers : (at : Option ℕ) (request : Request) → IsHeard parts arrived at request
-      → Tells configuration badges request stamp response (actor_of configuration request.token) (app_of request)
-      → Answers configuration badges parts arrived at stamp response
+      → Tells configuration openings badges request stamp response (actor_of configuration request.token) (app_of request)
+      → Answers configuration openings badges parts arrived at stamp response
   heard_answers None request heard told = absurd (let no = heard.allowed in cc)
   heard_answers (Some moment) request heard told =
       let one = request_in parts (body_in arrived) moment in
       subst (λ (first : Option Code). MatchOption (or_else first (unknown (actor_of configuration one.token)))
-      (IsAnswered configuration badges one stamp response) (λ code. Says response (refused code)))
+      (IsAnswered configuration openings badges one stamp response) (λ code. Says response (refused code)))
       (sym heard.allowed)
-      (subst (λ (r : Request). Tells configuration badges r stamp response (actor_of configuration r.token) (app_of r)) heard.is_it told)
+      (subst (λ (r : Request). Tells configuration openings badges r stamp response (actor_of configuration r.token) (app_of r)) heard.is_it told)
 
   -- so is the refusal where none can be made
   unheard_answers : (at : Option ℕ) (code : Code) → unheard arrived at ≡ Some code → Says response (refused code)
-      → Answers configuration badges parts arrived at stamp response
+      → Answers configuration openings badges parts arrived at stamp response
   unheard_answers at code is says =
       subst (λ (first : Option Code). MatchOption (or_else first (unknown (actor_of configuration (token_of parts.headers))))
-      (IfSome at (λ moment. IsAnswered configuration badges (request_in parts (body_in arrived) moment) stamp response)) (λ refusal. Says response (refused refusal)))
+      (IfSome at (λ moment. IsAnswered configuration openings badges (request_in parts (body_in arrived) moment) stamp response)) (λ refusal. Says response (refused refusal)))
       (sym is) says
 
 module _ {V E : Type 0} (reply : V → Option (Response (Full (List ℕ)))) (stamp : V → List (List ℕ))
-    (configuration : Configuration) (badges : Badges) (parts : Parts) (arrived : Arrived) (at : Option ℕ) where
+    (configuration : Configuration) (openings : Openings) (badges : Badges) (parts : Parts) (arrived : Arrived) (at : Option ℕ) where
   -- the response that waits is such an answer
   pub answered : (result : Result V E) (request : Request) (call : Result StateCall Code) → IsHeard parts arrived at request → IsResolved configuration request call
-      → IfOk result (λ s. Waits (λ response. Gives configuration badges (actor_of configuration request.token) request (stamp s) response call) (reply s))
-      → IfOk result (λ s. Waits (Answers configuration badges parts arrived at (stamp s)) (reply s))
+      → IfOk result (λ s. Waits (λ response. Gives configuration openings badges (actor_of configuration request.token) request (stamp s) response call) (reply s))
+      → IfOk result (λ s. Waits (Answers configuration openings badges parts arrived at (stamp s)) (reply s))
   answered result request call heard head =
       ok_more result (λ s. waits_more (reply s) (λ response gives.
-      heard_answers configuration badges parts arrived (stamp s) response at request heard (told_by configuration badges request (stamp s) response call head gives)))
+      heard_answers configuration openings badges parts arrived (stamp s) response at request heard (told_by configuration openings badges request (stamp s) response call head gives)))
 
   pub refused_early : (result : Result V E) (code : Code) → unheard arrived at ≡ Some code
       → IfOk result (λ s. Waits (λ response. Says response (refused code)) (reply s))
-      → IfOk result (λ s. Waits (Answers configuration badges parts arrived at (stamp s)) (reply s))
+      → IfOk result (λ s. Waits (Answers configuration openings badges parts arrived at (stamp s)) (reply s))
   refused_early result code is =
-      ok_more result (λ s. waits_more (reply s) (λ response. unheard_answers configuration badges parts arrived (stamp s) response at code is))
+      ok_more result (λ s. waits_more (reply s) (λ response. unheard_answers configuration openings badges parts arrived (stamp s) response at code is))

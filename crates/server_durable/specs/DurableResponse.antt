@@ -17,6 +17,7 @@ use Rattle.server_admission.specs.Arrival.{body_in}
 use Rattle.server_admission.specs.declared.arrival.Arrived.{Arrived}
 use Rattle.journal_laws.specs.Persisted.{is_kept}
 use Rattle.server_state.specs.HttpRequest.{request_in}
+use Rattle.server_state.specs.Openings.{BeginsAt, Openings}
 use Rattle.server_state.specs.Early.{early}
 use Rattle.server_state.specs.Respond.{TurnGives}
 use Rattle.server_state.specs.Response.{Says}
@@ -43,72 +44,73 @@ pub record IsRecordedTurn (configuration : Configuration) (actor : Actor) (reque
   pub turn : TurnGives configuration actor request reply
   pub recorded : is_kept configuration (record { request = request; reply = reply }) ≡ true → HasRecord configuration request stamp
 
--- The turn that gives this reply is the last of a list of all turns of the client's desk, or of the author's room, since
--- it was put behind its lock. The client's payloads among these begin with the records of all these turns, in their order
--- and with no other of the client's between.
-abbrev pub IsListed : Configuration → Actor → Request → Reply → List (List ℕ) → Type 0
-IsListed configuration (Operator place) request reply stamp =
-    (items : List TurnItem) × ∥ IsToldTurn configuration place request reply items ∥₁
+-- The turn that gives this reply is the last of a list of all turns of the client's desk, or of the author's room, which
+-- begins as it was put behind its lock. The client's payloads among these begin with the records of all these turns, in
+-- their order and with no other of the client's between.
+abbrev pub IsListed : Configuration → Openings → Actor → Request → Reply → List (List ℕ) → Type 0
+IsListed configuration openings (Operator place) request reply stamp =
+    (items : List TurnItem) × BeginsAt openings place items × ∥ IsToldTurn configuration place request reply items ∥₁
     × ∥ ShowsTurns configuration (client_in configuration) (index_of (Operator place)) items stamp ∥₁
-IsListed configuration Author request reply stamp = ∥ IsLoggedRoomTurn configuration (client_in configuration) request reply stamp ∥₁
-IsListed configuration Nobody request reply stamp = Unit {0}
+IsListed configuration openings Author request reply stamp =
+    ∥ IsLoggedRoomTurn configuration (client_in configuration) openings.room request reply stamp ∥₁
+IsListed configuration openings Nobody request reply stamp = Unit {0}
 
 -- the response has the reply of such a turn
-pub record IsCarriedOutBy (configuration : Configuration) (actor : Actor) (request : Request) (stamp : List (List ℕ)) (response : Response (Full (List ℕ))) : Type 0 where
+pub record IsCarriedOutBy (configuration : Configuration) (openings : Openings) (actor : Actor) (request : Request) (stamp : List (List ℕ)) (response : Response (Full (List ℕ))) : Type 0 where
   pub reply : Reply
   pub turn : IsRecordedTurn configuration actor request reply stamp
-  pub listed : IsListed configuration actor request reply stamp
+  pub listed : IsListed configuration openings actor request reply stamp
   pub says : Says response reply
 
 -- nothing is reserved in the log, and the request wasn't carried out; or it was
-abbrev pub IsAnsweredBy : Configuration → Actor → Request → List (List ℕ) → Response (Full (List ℕ)) → Type 0
-IsAnsweredBy configuration actor request stamp response = SaysUnheld response ⊎ IsCarriedOutBy configuration actor request stamp response
+abbrev pub IsAnsweredBy : Configuration → Openings → Actor → Request → List (List ℕ) → Response (Full (List ℕ)) → Type 0
+IsAnsweredBy configuration openings actor request stamp response = SaysUnheld response ⊎ IsCarriedOutBy configuration openings actor request stamp response
 
 -- The response to a call outside the protocol: a refusal, where the path doesn't have the method; the answers to an
 -- operator's reports; or the answer to the client's question or a view of fleets, which have no record.
-abbrev pub IsTold : Configuration → Badges → Actor → Request → Result AppCall Code → List (List ℕ) → Response (Full (List ℕ)) → Type 0
-IsTold configuration badges actor request (Err code) stamp response = Says response (refused code)
-IsTold configuration badges (Operator place) request (Ok Events) stamp response = ManyAreAnswered configuration place request stamp response
-IsTold configuration badges Author request (Ok Events) stamp response = Says response (refused Role)
-IsTold configuration badges (Operator place) request (Ok (Told question)) stamp response = SaysTold (TellsOperator configuration badges place question) response
-IsTold configuration badges Author request (Ok (Told question)) stamp response = SaysTold (TellsAuthor configuration badges question) response
-IsTold configuration badges (Operator place) request (Ok (Fleet view)) stamp response = SaysOne (IsOwnView configuration place view request.at) response
-IsTold configuration badges (Operator place) request (Ok (FleetOf view id)) stamp response = Says response (refused Role)
-IsTold configuration badges (Operator place) request (Ok NoOperator) stamp response = Says response (refused Role)
-IsTold configuration badges Author request (Ok (Fleet Compliance)) stamp response = SaysOne (IsEachCompliance configuration badges request.at) response
-IsTold configuration badges Author request (Ok (Fleet Vehicles)) stamp response = Says response (refused Role)
-IsTold configuration badges Author request (Ok NoOperator) stamp response = Says response (refused BadId)
-IsTold configuration badges Author request (Ok (FleetOf view id)) stamp response = SaysOne (IsViewOf configuration badges view id request.at) response
-IsTold configuration badges Nobody request (Ok call) stamp response = ⊥
+abbrev pub IsTold : Configuration → Openings → Badges → Actor → Request → Result AppCall Code → List (List ℕ) → Response (Full (List ℕ)) → Type 0
+IsTold configuration openings badges actor request (Err code) stamp response = Says response (refused code)
+IsTold configuration openings badges (Operator place) request (Ok Events) stamp response = ManyAreAnswered configuration openings place request stamp response
+IsTold configuration openings badges Author request (Ok Events) stamp response = Says response (refused Role)
+IsTold configuration openings badges (Operator place) request (Ok (Told question)) stamp response = SaysTold (TellsOperator configuration badges place question) response
+IsTold configuration openings badges Author request (Ok (Told question)) stamp response = SaysTold (TellsAuthor configuration badges question) response
+IsTold configuration openings badges (Operator place) request (Ok (Fleet view)) stamp response = SaysOne (IsOwnView configuration place view request.at) response
+IsTold configuration openings badges (Operator place) request (Ok (FleetOf view id)) stamp response = Says response (refused Role)
+IsTold configuration openings badges (Operator place) request (Ok NoOperator) stamp response = Says response (refused Role)
+IsTold configuration openings badges Author request (Ok (Fleet Compliance)) stamp response = SaysOne (IsEachCompliance configuration badges request.at) response
+IsTold configuration openings badges Author request (Ok (Fleet Vehicles)) stamp response = Says response (refused Role)
+IsTold configuration openings badges Author request (Ok NoOperator) stamp response = Says response (refused BadId)
+IsTold configuration openings badges Author request (Ok (FleetOf view id)) stamp response = SaysOne (IsViewOf configuration badges view id request.at) response
+IsTold configuration openings badges Nobody request (Ok call) stamp response = ⊥
 
 -- The response to a call of the protocol. What the table of calls refuses is answered with that refusal, without a turn
 -- and without a place in the log.
-abbrev pub IsAnsweredAs : Configuration → Actor → Request → List (List ℕ) → Response (Full (List ℕ)) → Result Call Code → Type 0
-IsAnsweredAs configuration actor request stamp response (Ok call) = IsAnsweredBy configuration actor request stamp response
-IsAnsweredAs configuration actor request stamp response (Err code) = Says response (refused code)
+abbrev pub IsAnsweredAs : Configuration → Openings → Actor → Request → List (List ℕ) → Response (Full (List ℕ)) → Result Call Code → Type 0
+IsAnsweredAs configuration openings actor request stamp response (Ok call) = IsAnsweredBy configuration openings actor request stamp response
+IsAnsweredAs configuration openings actor request stamp response (Err code) = Says response (refused code)
 
 -- the path says which of the two it is
-abbrev pub IsToldBy : Configuration → Badges → Actor → Request → List (List ℕ) → Response (Full (List ℕ)) → Type 0
-IsToldBy configuration badges actor request stamp response =
-    MatchOption (app_of request) (IsAnsweredAs configuration actor request stamp response (call_of configuration request))
-    (λ call. IsTold configuration badges actor request call stamp response)
+abbrev pub IsToldBy : Configuration → Openings → Badges → Actor → Request → List (List ℕ) → Response (Full (List ℕ)) → Type 0
+IsToldBy configuration openings badges actor request stamp response =
+    MatchOption (app_of request) (IsAnsweredAs configuration openings actor request stamp response (call_of configuration request))
+    (λ call. IsTold configuration openings badges actor request call stamp response)
 
 -- the client is the one whose access token the request carries
-abbrev pub IsCarriedOut : Configuration → Request → List (List ℕ) → Response (Full (List ℕ)) → Type 0
-IsCarriedOut configuration request stamp response = IsCarriedOutBy configuration (actor_of configuration request.token) request stamp response
+abbrev pub IsCarriedOut : Configuration → Openings → Request → List (List ℕ) → Response (Full (List ℕ)) → Type 0
+IsCarriedOut configuration openings request stamp response = IsCarriedOutBy configuration openings (actor_of configuration request.token) request stamp response
 
-abbrev pub IsAnswered : Configuration → Badges → Request → List (List ℕ) → Response (Full (List ℕ)) → Type 0
-IsAnswered configuration badges request stamp response = IsToldBy configuration badges (actor_of configuration request.token) request stamp response
+abbrev pub IsAnswered : Configuration → Openings → Badges → Request → List (List ℕ) → Response (Full (List ℕ)) → Type 0
+IsAnswered configuration openings badges request stamp response = IsToldBy configuration openings badges (actor_of configuration request.token) request stamp response
 
 -- The response has the first early refusal that applies. Where none does, the request that the head and the body make
 -- at this moment is answered: a call of the protocol, or one next to it. The response waits until all these payloads
 -- are synced.
-abbrev pub Answers : Configuration → Badges → Parts → Arrived → Option ℕ → List (List ℕ) → Response (Full (List ℕ)) → Type 0
-Answers configuration badges parts arrived at stamp response =
+abbrev pub Answers : Configuration → Openings → Badges → Parts → Arrived → Option ℕ → List (List ℕ) → Response (Full (List ℕ)) → Type 0
+Answers configuration openings badges parts arrived at stamp response =
     MatchOption (early configuration parts arrived at)
-    (IfSome at (λ moment. IsAnswered configuration badges (request_in parts (body_in arrived) moment) stamp response))
+    (IfSome at (λ moment. IsAnswered configuration openings badges (request_in parts (body_in arrived) moment) stamp response))
     (λ code. Says response (refused code))
 
 -- No cache may store the response.
-abbrev pub CityResponds : Configuration → Badges → Parts → Arrived → Option ℕ → Option (Response (Full (List ℕ))) → List (List ℕ) → Type 0
-CityResponds configuration badges parts arrived at reply stamp = Waits (Answers configuration badges parts arrived at stamp) reply
+abbrev pub CityResponds : Configuration → Openings → Badges → Parts → Arrived → Option ℕ → Option (Response (Full (List ℕ))) → List (List ℕ) → Type 0
+CityResponds configuration openings badges parts arrived at reply stamp = Waits (Answers configuration openings badges parts arrived at stamp) reply

@@ -19,12 +19,14 @@ use Rattle.mds_machine.specs.OneHistory.{HasServed, exchanges_in as turn_exchang
 use Rattle.mds_machine.specs.Room.{authors_in}
 use Rattle.mds_machine.specs.Step.{Exchange}
 use Rattle.mds_request.specs.Configuration.{Configuration, Operator, has_alike, ids, read_configuration, repeats}
+use Rattle.mds_request.specs.Reply.{Reply}
+use Rattle.mds_request.specs.Request.{Request}
 use Rattle.mds_request.specs.declared.config.Actor.{Actor}
 use Rattle.mds_request.specs.declared.config.Actor.TheVariants.{Author, Nobody, Operator as OperatorAt}
 use Rattle.server_admission.specs.Actor.{index_of}
-use Rattle.server_state.specs.RoomTurns.{AreRoomTurnsOf, room_opened_as}
+use Rattle.server_state.specs.RoomTurns.{AreRoomTurnsOf, IsToldRoomTurn, room_opened_as}
 use Rattle.server_state.specs.TurnItem.{TurnItem}
-use Rattle.server_state.specs.TurnList.{AreTurnsOf, opened_as}
+use Rattle.server_state.specs.TurnList.{AreTurnsOf, IsToldTurn, opened_as}
 use Rattle.server_durable.specs.Logged.{AreLogged, exchanges_in}
 use Rattle.server_durable.specs.Many.{AreRecordsOf}
 use Rattle.server_durable.specs.Owners.{client_in}
@@ -193,3 +195,21 @@ StoppedServersLeaveJournals =
     → (ends : EndsLogged configuration (room_opened_as (held_in s.room)) (map opened_as s.desks) texts)
     → (more : List Entry) × (later : ℕ → List Turn) × ReadsAs texts more × AreOfLists configuration (lists_of ends) later
     × IsJournalOfOneServer configuration (entries ++ more) (told ++ exchanges_in ends.room) ends.r.publications (λ place. turns place ++ later place)
+
+-- A turn of an operator's desk that was told, with its list, is among what that desk's list has at the end, where that
+-- begins with it: so it is one of the turns whose records are the journal, behind the turns that were told before it.
+abbrev pub ToldTurnsAreLeft : Type 0
+ToldTurnsAreLeft =
+    (configuration : Configuration) (lists : ℕ → List TurnItem) (turns : ℕ → List Turn) (place : ℕ) (operator : Operator) (request : Request)
+    (reply : Reply) (items : List TurnItem)
+    → AreOfLists configuration lists turns → slice_get configuration.operators place ≡ Some operator
+    → (told : IsToldTurn configuration place request reply items) → IsPrefix items (lists place)
+    → (after : List Exchange)
+    × (turn_exchanges (turns place) ≡ exchanges_in told.before ++ record { request = request; reply = reply } ∷ after)
+
+-- The same of the author's room: what one server did has its turns first.
+abbrev pub ToldRoomTurnsAreLeft : Type 0
+ToldRoomTurnsAreLeft =
+    (configuration : Configuration) (room : List TurnItem) (request : Request) (reply : Reply) (items : List TurnItem)
+    → (told : IsToldRoomTurn configuration request reply items) → IsPrefix items room
+    → (after : List Exchange) × (exchanges_in room ≡ exchanges_in told.before ++ record { request = request; reply = reply } ∷ after)

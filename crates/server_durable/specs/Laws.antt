@@ -6,6 +6,7 @@ use Rattle.http.specs.declared.response.Response.{Response}
 use Rattle.http_body_util.specs.declared.full.Full.{Full}
 use Rattle.journal_commit.specs.Durable.{AreDurable}
 use Rattle.server_state.specs.HttpRequest.{target_of}
+use Rattle.server_state.specs.Openings.{Openings}
 use Rattle.server_state.specs.Respond.{Responds, TurnGives}
 use Rattle.server_state.specs.Response.{Says}
 use Rattle.server_state.specs.Turn.{DeskRuns}
@@ -44,8 +45,8 @@ module _ {L : Type 0} (may_be : L → List (List ℕ) → Type 0) (is_synced : L
   -- has its record.
   abbrev pub RecordedAreKept : Type 0
   RecordedAreKept =
-      (configuration : Configuration) (request : Request) (response : Response (Full (List ℕ))) (stamp : List (List ℕ))
-      → IsCarriedOut configuration request stamp response → AreDurable may_be is_synced stamp
+      (configuration : Configuration) (openings : Openings) (request : Request) (response : Response (Full (List ℕ))) (stamp : List (List ℕ))
+      → IsCarriedOut configuration openings request stamp response → AreDurable may_be is_synced stamp
       → (reply : Reply) × TurnGives configuration (actor_of configuration request.token) request reply × Says response reply
       × (is_kept configuration (record { request = request; reply = reply }) ≡ true → HasDurableRecord configuration request)
 
@@ -54,8 +55,8 @@ module _ {L : Type 0} (may_be : L → List (List ℕ) → Type 0) (is_synced : L
   -- were refused and weren't carried out.
   abbrev pub ManyAreKept : Type 0
   ManyAreKept =
-      (configuration : Configuration) (place : ℕ) (requests : List Request) (response : Response (Full (List ℕ))) (stamp : List (List ℕ))
-      → AreCarriedOutBy configuration place requests stamp response → AreDurable may_be is_synced stamp
+      (configuration : Configuration) (openings : Openings) (place : ℕ) (requests : List Request) (response : Response (Full (List ℕ))) (stamp : List (List ℕ))
+      → AreCarriedOutBy configuration openings place requests stamp response → AreDurable may_be is_synced stamp
       → (asked : List Request) × (unasked : List Request) × (own : List Reply) × (others : List Reply) × (requests ≡ asked ++ unasked)
       × DeskRuns configuration place asked own × SaysAll response (own ++ others)
       × ((unasked ≡ [] × others ≡ []) ⊎ AreRefusedBehind unasked others)
@@ -64,9 +65,10 @@ module _ {L : Type 0} (may_be : L → List (List ℕ) → Type 0) (is_synced : L
 -- Where what a request needs of the log is reserved, a city responds to a call of the protocol as a hall does.
 abbrev pub RespondsAsAHall : Type 0
 RespondsAsAHall =
-    (configuration : Configuration) (badges : Badges) (parts : Parts) (arrived : Arrived) (at : Option ℕ) (stamp : List (List ℕ)) (response : Response (Full (List ℕ)))
+    (configuration : Configuration) (openings : Openings) (badges : Badges) (parts : Parts) (arrived : Arrived) (at : Option ℕ) (stamp : List (List ℕ))
+    (response : Response (Full (List ℕ)))
     → app_at (verb_of parts.method) (path_of (target_of parts.uri)) ≡ None
-    → Answers configuration badges parts arrived at stamp response
+    → Answers configuration openings badges parts arrived at stamp response
     → SaysUnheld response ⊎ Responds configuration parts arrived at response
 
 -- No journal persists a call outside the protocol: of many reports it persists each by itself, as a request of the

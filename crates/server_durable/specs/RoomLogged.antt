@@ -1,4 +1,5 @@
 -- The records of the turns of the author's room in a log.
+use mathlib.Core.List.{IsPrefix}
 use Rattle.std.specs.Prelude.{◌≡◌, ℕ, List, ◌++◌, Option, Some, None, Result, Ok, Err}
 use Rattle.journal_commit.specs.Clients.{Own, of_client}
 use Rattle.journal_commit.specs.declared.backlog.Reservation.{Reservation}
@@ -14,10 +15,12 @@ use Rattle.server_durable.specs.Owners.{appended_by}
 use Rattle.server_durable.specs.Records.{place_of}
 use Rattle.server_durable.specs.declared.records.CallReservation.{CallReservation}
 
--- The turn of the room that gives this reply to this request is the last of a list of all its turns, whose records are
--- at the front of the author's payloads in a log position.
-pub record IsLoggedRoomTurn (configuration : Configuration) (client_of : List ℕ → ℕ) (request : Request) (reply : Reply) (stamp : List (List ℕ)) : Type 0 where
+-- The turn of the room that gives this reply to this request is the last of a list of all its turns, which begins so and
+-- whose records are at the front of the author's payloads in a log position.
+pub record IsLoggedRoomTurn (configuration : Configuration) (client_of : List ℕ → ℕ) (opening : List TurnItem) (request : Request) (reply : Reply)
+    (stamp : List (List ℕ)) : Type 0 where
   pub items : List TurnItem
+  pub begins : IsPrefix opening items
   pub told : IsToldRoomTurn configuration request reply items
   pub shows : ShowsTurns configuration client_of (index_of Author) items stamp
 

@@ -7,6 +7,7 @@ ghost use Rattle.mds_request.specs.Reply.{refused};
 ghost use Rattle.mds_request.specs.declared.call.Call.TheVariants.{Author as ByAuthor, Operator as OperatorAt};
 ghost use Rattle.mds_request.specs.declared.config.Actor.TheVariants.{Author, Operator};
 ghost use Rattle.server_state.specs.WholeRequest.{request_heard};
+ghost use Rattle.server_state.specs.Openings.{BeginsAt, openings_of};
 ghost use Rattle.server_state.specs.Response.{Says};
 ghost use Rattle.server_state.specs.TurnItem.{Answered};
 ghost use Rattle.server_state.specs.TurnList.{IsToldTurn};
@@ -336,8 +337,8 @@ impl<K: HallName, N: LogName, L: Log, S: Space> DurableHall<K, N, L, S> {
     }
 
     /// One turn of the desk of the operator at this place for one of its calls, and its record, all under the desk's
-    /// lock. The turn stands in the desk's list behind all that were told before, and the operator's records up to the
-    /// log position are those of the list's turns.
+    /// lock. The turn stands in the desk's list behind all that were told before, the list begins as the desk was put
+    /// behind its lock, and the operator's records up to the log position are those of the list's turns.
     ///
     /// # Errors
     ///
@@ -357,6 +358,7 @@ impl<K: HallName, N: LogName, L: Log, S: Space> DurableHall<K, N, L, S> {
             (request_heard heard.entry) turn.answered.answer turn.answered.stamp) }
         ensures told { IfOk result (λ turn. ∥ IsToldTurn K.configuration place (request_heard heard.entry)
             turn.answered.answer turn.turns.front.seen.log ∥₁) }
+        ensures begins { IfOk result (λ turn. BeginsAt (openings_of self.now.hall) place turn.turns.front.seen.log) }
         ensures shows { IfOk result (λ turn. ∥ ShowsTurns K.configuration N.client_of (index_of (Operator place))
             turn.turns.front.seen.log turn.answered.stamp ∥₁) }
     {
@@ -373,11 +375,12 @@ impl<K: HallName, N: LogName, L: Log, S: Space> DurableHall<K, N, L, S> {
 
     /// One turn of the author's room for a call of the author, and its record, all under the room's lock. A
     /// publication's record is synced before the publication is visible. The records before it are those of all turns
-    /// of the room.
+    /// of the room, whose list begins as the room was put behind its lock.
     ///
     /// # Errors
     ///
-    /// The log failed. It also fails where there are records of other turns, which doesn't happen.
+    /// The log failed. It also fails where there are records of other turns, or the list begins otherwise: neither
+    /// happens.
     pub(crate) fn room_turn<T: RecordPayload, R: TurnRuntime>(
         &self,
         rt: &R,
@@ -397,9 +400,12 @@ impl<K: HallName, N: LogName, L: Log, S: Space> DurableHall<K, N, L, S> {
         ensures recorded { IfOk result (λ answered. IsRecordedTurn K.configuration Author
             (request_heard heard.entry) answered.answer answered.stamp) }
         ensures listed { IfOk result (λ answered. ∥ IsLoggedRoomTurn K.configuration N.client_of
-            (request_heard heard.entry) answered.answer answered.stamp ∥₁) }
+            (openings_of self.now.hall).room (request_heard heard.entry) answered.answer answered.stamp ∥₁) }
     {
-        let mut guard = self.hall.room(rt);
+        let Some(mut guard) = self.hall.room_checked(rt) else {
+            give_back(rt, &*keeper, reserved);
+            return Err(CommitFault::Failed(keeper.fail(rt)));
+        };
         let room = &mut *guard;
         let Some(records) = log.records_of(room) else {
             give_back(rt, &*keeper, reserved);
@@ -427,7 +433,7 @@ impl<K: HallName, N: LogName, L: Log, S: Space> DurableHall<K, N, L, S> {
         ensures recorded { IfOk result (λ answered. IsRecordedTurn K.configuration Author
             (request_heard heard.entry) answered.answer answered.stamp) }
         ensures listed { IfOk result (λ answered. ∥ IsLoggedRoomTurn K.configuration N.client_of
-            (request_heard heard.entry) answered.answer answered.stamp ∥₁) }
+            (openings_of self.now.hall).room (request_heard heard.entry) answered.answer answered.stamp ∥₁) }
     {
         let Ok(keeper) = Arc::try_clone(&self.keeper) else {
             give_back(rt, &*self.keeper, reserved);

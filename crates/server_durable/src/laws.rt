@@ -1,8 +1,12 @@
-//! Laws of a city's responses. The functions do nothing: their contracts are the laws.
+//! Laws of a city's responses. The functions change nothing: their contracts are the laws.
+ghost use Rattle.std.specs.Prelude.{◌≡◌, ◌⊎◌};
+ghost use mathlib.Core.List.{IsPrefix};
 ghost use Rattle.server_durable.specs.Journals.{EndedHallsGoOn, HallsGoOn, JournalsGoOn, LogsAreJournals, NoEntriesAreAJournal, ReadConfigurationsTellClients, StoppedServersLeaveJournals};
+ghost use Rattle.server_durable.specs.Journals.{ToldRoomTurnsAreLeft, ToldTurnsAreLeft};
 ghost use Rattle.server_durable.specs.Laws.{AppCallsAreNotKept, ManyAreKept, OperatorsAreToldTheirOwn, RecordedAreKept, RespondsAsAHall, ViewsAreAskedByTheOperator, ViewsAreByOwnRequests, ViewsAreByOwnRows, ViewsLeaveRows, WithdrawalsAreOfOwnPolicies};
 
 use journal_file::Log;
+use server_state::{DeskTurns, HallName, RoomTurns};
 
 /// If a journal persists an exchange and its response was sent, a synced log has its record.
 pub fn recorded_are_persisted<L: Log>()
@@ -86,4 +90,29 @@ pub fn ended_halls_go_on()
 pub fn stopped_servers_leave_journals()
     ensures first { NoEntriesAreAJournal }
     ensures next { StoppedServersLeaveJournals }
+{}
+
+/// Any two lists of turns of one desk, whenever they were given, are one list: one begins the other. So where the list at
+/// the end isn't shorter than that behind a turn which was told, it begins with that.
+pub fn desk_turns_are_one_list<K: HallName>(one: &DeskTurns<K>, other: &DeskTurns<K>)
+    requires { one.now.place ≡ other.now.place }
+    ensures { IsPrefix one.now.front.seen.log other.now.front.seen.log ⊎ IsPrefix other.now.front.seen.log one.now.front.seen.log }
+{
+    let _is_first = one.begins(other);
+    let _is_second = other.begins(one);
+}
+
+/// The same of the author's room.
+pub fn room_turns_are_one_list<K: HallName>(one: &RoomTurns<K>, other: &RoomTurns<K>)
+    ensures { IsPrefix one.now.front.seen.log other.now.front.seen.log ⊎ IsPrefix other.now.front.seen.log one.now.front.seen.log }
+{
+    let _comes_first = one.begins(other);
+    let _comes_second = other.begins(one);
+}
+
+/// A turn that was told, behind a list with which the list at the end begins, is one of those whose records are the
+/// journal that a stopped server leaves.
+pub fn told_turns_are_left()
+    ensures desk { ToldTurnsAreLeft }
+    ensures room { ToldRoomTurnsAreLeft }
 {}

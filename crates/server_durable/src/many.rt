@@ -7,6 +7,7 @@ ghost use Rattle.mds_request.specs.Request.{request_of};
 ghost use Rattle.mds_request.specs.Reply.{Reply, refused};
 ghost use Rattle.mds_desk.specs.Desk.{state_of};
 ghost use Rattle.server_admission.specs.Actor.{index_of};
+ghost use Rattle.server_state.specs.Openings.{BeginsAt, openings_of};
 ghost use Rattle.server_state.specs.WholeRequest.{request_heard};
 ghost use Rattle.mds_request.specs.declared.config.Actor.TheVariants.{Operator};
 ghost use Rattle.server_durable.specs.Logged.{OwnsTurns, ShowsTurns};
@@ -397,8 +398,10 @@ impl<K: HallName, N: LogName, L: Log, S: Space> DurableHall<K, N, L, S> {
         requires owner { records.old.place ≡ place }
         requires place { desk.old.place ≡ place }
         requires within { place < length K.configuration.operators }
+        requires begins { BeginsAt (openings_of self.now.hall) place desk.old.turns.front.seen.log }
         requires asked { AreAskedBy K.configuration place (map request_of requests.now) }
-        ensures { IfOk result (λ replies. IsAnsweredInPart K.configuration place (map request_of requests.now) replies.answers.items replies.stamp) }
+        ensures { IfOk result (λ replies. IsAnsweredInPart K.configuration (openings_of self.now.hall) place
+            (map request_of requests.now) replies.answers.items replies.stamp) }
     {
         let mut replies = Replies {
             answers: Vec::with_capacity(context.alloc, requests.len())?,
@@ -434,7 +437,7 @@ impl<K: HallName, N: LogName, L: Log, S: Space> DurableHall<K, N, L, S> {
         requires judge { E.may_judge }
         requires place { place < length K.configuration.operators }
         requires asked { AreAskedBy K.configuration place (map request_of requests.now) }
-        ensures { IfOk result (λ replies. IsAnsweredInPart K.configuration place
+        ensures { IfOk result (λ replies. IsAnsweredInPart K.configuration (openings_of self.now.hall) place
             (map request_of requests.now) replies.answers.items replies.stamp) }
     {
         let Some(mut desk) = self.hall.desk_at(context.rt, place) else {
@@ -506,7 +509,8 @@ pub(crate) fn many_reports<
 ) -> Result<ResponseAfterSync<N, L, S>, NoResponse>
     requires judge { E.may_judge }
     requires client { actor_of K.configuration (request_heard heard.now).token ≡ Operator place }
-    ensures { IfOk result (λ s. Waits (ManyAreAnswered K.configuration place (request_heard heard.now) s.stamp) s.reply) }
+    ensures { IfOk result (λ s. Waits (ManyAreAnswered K.configuration (openings_of city.now.hall) place
+        (request_heard heard.now) s.stamp) s.reply) }
 {
     let request = heard.request();
     let requests = match reports(context.alloc, &request) {

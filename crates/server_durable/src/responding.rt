@@ -2,6 +2,7 @@
 ghost use Rattle.std.specs.Prelude.{◌≡◌, Ok, IfOk};
 ghost use Rattle.mds_request.specs.Call.{call_of};
 ghost use Rattle.mds_request.specs.Configuration.{actor_of};
+ghost use Rattle.server_state.specs.Openings.{openings_of};
 ghost use Rattle.server_state.specs.WholeRequest.{request_heard};
 ghost use Rattle.server_app.specs.OperatorNames.{badges_view};
 ghost use Rattle.server_durable.specs.DurableResponse.{IsListed, CityResponds, IsAnsweredBy, IsRecordedTurn};
@@ -42,7 +43,8 @@ pub fn respond<K: HallName, N: LogName, R: TurnRuntime, E: Evaluator<Catalogue>,
     city: &DurableHall<K, N, L, S>,
 ) -> Result<ResponseAfterSync<N, L, S>, NoResponse>
     requires { E.may_judge }
-    ensures { IfOk result (λ s. CityResponds K.configuration (badges_view city.now.badges) head.now.parts arrived.now at s.reply s.stamp) }
+    ensures { IfOk result (λ s. CityResponds K.configuration (openings_of city.now.hall) (badges_view city.now.badges)
+        head.now.parts arrived.now at s.reply s.stamp) }
 {
     let heard = match read_whole(head.parts(), arrived, at) {
         Ok(heard) => heard,
@@ -73,8 +75,8 @@ fn answer_call<K: HallName, N: LogName, R: TurnRuntime, E: Evaluator<Catalogue>,
 ) -> Result<ResponseAfterSync<N, L, S>, NoResponse>
     requires judge { E.may_judge }
     requires resolved { call_of K.configuration (request_heard heard) ≡ Ok call }
-    ensures { IfOk result (λ s. Waits (IsAnsweredBy K.configuration (actor_of K.configuration (request_heard heard.entry).token)
-        (request_heard heard.entry) s.stamp) s.reply) }
+    ensures { IfOk result (λ s. Waits (IsAnsweredBy K.configuration (openings_of city.now.hall)
+        (actor_of K.configuration (request_heard heard.entry).token) (request_heard heard.entry) s.stamp) s.reply) }
 {
     let reserved = match city.reserve_for(context.rt, context.alloc, &heard, &call) {
         Ok(reserved) => reserved,
@@ -103,8 +105,8 @@ fn carry_out<K: HallName, N: LogName, R: TurnRuntime, E: Evaluator<Catalogue>, L
     requires reserved { IsReserved K.configuration (request_heard heard) reserved }
     ensures turn { IfOk result (λ answered. IsRecordedTurn K.configuration (actor_of K.configuration (request_heard heard.entry).token)
         (request_heard heard.entry) answered.answer answered.stamp) }
-    ensures listed { IfOk result (λ answered. IsListed K.configuration (actor_of K.configuration (request_heard heard.entry).token)
-        (request_heard heard.entry) answered.answer answered.stamp) }
+    ensures listed { IfOk result (λ answered. IsListed K.configuration (openings_of city.now.hall)
+        (actor_of K.configuration (request_heard heard.entry).token) (request_heard heard.entry) answered.answer answered.stamp) }
 {
     match call {
         Call::Author(call) => city.room_turn_of(context.rt, call, heard, reserved),

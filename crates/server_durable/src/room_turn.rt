@@ -1,5 +1,5 @@
 //! A turn of the author's room, which ends once its record is committed.
-ghost use Rattle.std.specs.Prelude.{◌≡◌, ◌⊎◌, Ok, Err, IfNone, IfOk, IfSome, IsSome, IsSomeAnd};
+ghost use Rattle.std.specs.Prelude.{◌≡◌, ◌⊎◌, ◌++◌, ◌∷◌, [], Ok, Err, IfNone, IfOk, IfSome, IsSome, IsSomeAnd};
 ghost use Rattle.std.specs.Mem.{manually_drop_value};
 ghost use Rattle.journal_commit.specs.declared.commit_log.CommitFault.TheVariants as fault;
 ghost use Rattle.journal_commit.specs.declared.failure.LogFailure.{LogFailure};
@@ -12,6 +12,7 @@ ghost use Rattle.mds_request.specs.declared.config.Actor.TheVariants.{Author};
 ghost use Rattle.server_admission.specs.Actor.{index_of};
 ghost use Rattle.server_state.specs.RoomTurns.{IsToldRoomTurn};
 ghost use Rattle.server_state.specs.Turn.{RoomReplies};
+ghost use Rattle.server_state.specs.TurnItem.{Answered};
 ghost use Rattle.server_state.specs.WholeRequest.{request_heard};
 ghost use Rattle.server_durable.specs.Logged.{OwnsTurns, ShowsTurns};
 ghost use Rattle.server_durable.specs.Records.{IsAmong, IsReserved, IsShown};
@@ -68,6 +69,8 @@ impl<T: RecordPayload, K: HallName, R: TurnRuntime, N: LogName, L: Log, S: Space
         ensures given { IfSome result.note (λ list. IsShown L.may_be L.is_synced T.text result.recording.shown) }
         ensures asked { (result.recording ≡ recording) ⊎ (IsSome result.note ⊎ (result.answer ≡ refused NoMemory)) }
         ensures told { IfSome result.turns (λ turns. ∥ IsToldRoomTurn K.configuration (request_heard heard.entry) result.answer turns.front.seen.log ∥₁) }
+        ensures behind { IfSome result.turns (λ turns. turns.front.seen.log
+            ≡ room.old.turns.front.seen.log ++ Answered (request_heard heard.entry) result.answer ∷ []) }
         ensures owned { IfSome result.turns (λ turns.
             ∥ WillOwnTurns K.configuration N.client_of T.reserved T.own result.answer.status turns.front.seen.log ∥₁) }
     {

@@ -3,6 +3,7 @@ ghost use Rattle.std.specs.Prelude.{◌≡◌, Option, ℕ, IfOk, IfSome};
 ghost use Rattle.server_app.specs.OperatorNames.{badges_view};
 ghost use Rattle.server_routes.specs.Resolution.{of_file, of_public, of_past, of_state, resolved_by};
 ghost use Rattle.server_routes.specs.declared.resolved.ResolvedHead.TheVariants.{Asset, Past, Public, State};
+ghost use Rattle.server_state.specs.Openings.{openings_of};
 ghost use Rattle.server_durable.specs.DurableResponse.{CityResponds};
 
 use crate::context::{Context, TurnRuntime};
@@ -70,7 +71,8 @@ impl<
     ) -> Result<PendingResponse<N, L, S>, Crowded>
         requires { E.may_judge }
         ensures { IfOk result (λ leaving. IfSome leaving.told (λ s. (at : Option ℕ)
-            × CityResponds K.configuration (badges_view self.now.city.badges) head.now.parts body.now at s.reply s.stamp)) }
+            × CityResponds K.configuration (openings_of self.now.city.hall) (badges_view self.now.city.badges)
+            head.now.parts body.now at s.reply s.stamp)) }
     {
         let at = self.moments.now();
         let context = Context {

@@ -3,6 +3,7 @@ ghost use Rattle.std.specs.Prelude.{◌≡◌, ⊤, ℕ, None, Option, is_some, 
 ghost use Rattle.futures.specs.declared.future.either.Either.TheVariants.{Left, Right};
 ghost use Rattle.http_uri.specs.Uri.{uri_path};
 ghost use Rattle.server_app.specs.OperatorNames.{badges_view};
+ghost use Rattle.server_state.specs.Openings.{openings_of};
 ghost use Rattle.server_durable.specs.DurableResponse.{CityResponds};
 ghost use Rattle.server_admission.specs.declared.cost.Cost.TheVariants.{Exclusive, Free};
 ghost use Rattle.server_page.specs.Response.{Responds};
@@ -92,7 +93,8 @@ where
         ensures names { IfOk result (λ reply.
             option_map methods_text reply.guide.methods ≡ methods_for head.now.call (uri_path head.now.parts.uri)) }
         ensures responds { IfOk result (λ reply. IfSome reply.reply.reply.told (λ s. (at : Option ℕ)
-            × CityResponds K.configuration (badges_view self.now.state.city.badges) head.now.parts body.now at s.reply s.stamp)) }
+            × CityResponds K.configuration (openings_of self.now.state.city.hall) (badges_view self.now.state.city.badges)
+            head.now.parts body.now at s.reply s.stamp)) }
     {
         let call = head.call();
         let ticket = RequestTimer::new(self.counters, self.state.rt, kind_of(&call));
@@ -208,7 +210,8 @@ where
             | Left told ↦ ⊥
             | Right reply ↦ (option_map methods_text reply.guide.methods ≡ methods_for head.call (uri_path head.parts.uri))
                 × IfSome reply.reply.reply.told (λ s. (at : Option ℕ)
-                × CityResponds K.configuration (badges_view self.now.state.city.badges) head.parts body.now at s.reply s.stamp)
+                × CityResponds K.configuration (openings_of self.now.state.city.hall) (badges_view self.now.state.city.badges)
+                head.parts body.now at s.reply s.stamp)
           ])
         ] }
     {

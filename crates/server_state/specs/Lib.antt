@@ -12,3 +12,4 @@ pub mod TurnList
 pub mod TurnBooks
 pub mod TurnLists
 pub mod RoomTurns
+pub mod Openings

@@ -4,6 +4,7 @@ ghost use Rattle.mds_request.specs.Call.{call_of};
 ghost use Rattle.mds_request.specs.Configuration.{configuration};
 ghost use Rattle.mds_request.specs.declared.call.Call.TheVariants.{Operator as OperatorAt};
 ghost use Rattle.server_state.specs.WholeRequest.{request_heard};
+ghost use Rattle.server_state.specs.Openings.{BeginsAt, openings_of};
 ghost use Rattle.server_state.specs.Respond.{IsAnswered, Responds};
 ghost use Rattle.server_state.specs.Turn.{DeskReplies};
 ghost use Rattle.server_state.specs.TurnList.{IsToldTurn};
@@ -121,6 +122,7 @@ pub fn take_desk_turn<K: HallName, R: Wait, G: Gate, E: Evaluator<Catalogue>>(
     requires resolved { call_of K.configuration (request_heard heard) ≡ Ok (OperatorAt place call.now) }
     ensures told { IfSome result (λ told. ∥ IsToldTurn K.configuration place (request_heard heard.entry) told.reply told.turns.front.seen.log ∥₁) }
     ensures place { IfSome result (λ told. told.turns.place ≡ place) }
+    ensures begins { IfSome result (λ told. BeginsAt (openings_of context.now.hall.now) place told.turns.front.seen.log) }
     ensures replies { IfSome result (λ told. DeskReplies K.configuration place (request_heard heard.entry) told.reply) }
 {
     let mut desk = context.hall.desk_at(context.rt, place)?;

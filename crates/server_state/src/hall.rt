@@ -1,5 +1,5 @@
 //! The server's state: the author's room and the desks, each behind a lock of its own.
-ghost use Rattle.std.specs.Prelude.{◌≡◌, ◌<◌, ◌++◌, ◌∷◌, [], IfOk, IfSome, Ok, Some, length, map};
+ghost use Rattle.std.specs.Prelude.{◌≡◌, ◌<◌, ◌++◌, ◌∷◌, [], IfOk, IfSome, Ok, Some, length, map, slice_get};
 ghost use mathlib.Core.List.{IsPrefix};
 ghost use Rattle.std.specs.Mem.{manually_drop_value};
 ghost use Rattle.std.specs.Sync.Mutex.{mutex_guard_value};
@@ -97,6 +97,8 @@ fn set_latest<K: HallName>(latest: &mut Option<Note<K>>, note: Note<K>)
 }
 
 impl<K: HallName> Hall<K> {
+    ghost use Rattle.server_state.specs.Openings.{BeginsAt, openings_of};
+
     /// Opens a `Blank` for a configuration.
     ///
     /// # Errors
@@ -213,15 +215,18 @@ impl<K: HallName> Hall<K> {
     /// The lock of the desk of the operator at this index of the configuration.
     pub(crate) fn desk(&self, place: usize) -> &DeskLock<K>
         requires { place < length (configuration self.now.config.value).operators }
-        ensures { result.now.place ≡ place }
+        ensures place { result.now.place ≡ place }
+        ensures opening { slice_get (openings_of self.now).desks place ≡ Some result.now.opening.front.seen.log }
     {
         &self.desks[place]
     }
 
-    /// The desk of the operator at this index, once its lock is taken.
+    /// The desk of the operator at this index, once its lock is taken. Its list begins as it was put
+    /// behind the lock.
     pub fn desk_at<R: Wait>(&self, rt: &R, place: usize) -> Option<MutexGuard<'_, HallDesk<K>>>
         requires { place < length (configuration self.now.config.value).operators }
-        ensures { IfSome result (λ guard. (mutex_guard_value guard).place ≡ place) }
+        ensures place { IfSome result (λ guard. (mutex_guard_value guard).place ≡ place) }
+        ensures begins { IfSome result (λ guard. BeginsAt (openings_of self.now) place (mutex_guard_value guard).turns.front.seen.log) }
     {
         self.desk(place).lock_checked(rt)
     }
@@ -245,6 +250,19 @@ impl<K: HallName> Hall<K> {
     /// The author's room, once its lock is taken.
     pub fn room<R: Wait>(&self, rt: &R) -> MutexGuard<'_, HallRoom<K>> {
         self.room.lock(rt)
+    }
+
+    /// The author's room, once its lock is taken. Its list begins as it was put behind the lock, which
+    /// is compared; it never begins otherwise.
+    pub fn room_checked<R: Wait>(&self, rt: &R) -> Option<MutexGuard<'_, HallRoom<K>>>
+        ensures { IfSome result (λ guard. IsPrefix (openings_of self.now).room (mutex_guard_value guard).turns.front.seen.log) }
+    {
+        let room = self.room.lock(rt);
+        if room.begins_with(&self.room_opening) {
+            Some(room)
+        } else {
+            None
+        }
     }
 
     /// Sets the latest note: under the room's lock, so that a later one isn't lost.

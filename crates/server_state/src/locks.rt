@@ -315,13 +315,15 @@ impl<K: HallName> DeskLock<K> {
         self.desk.lock(rt)
     }
 
-    /// The desk of this lock's index. All that is known of the desk behind the lock is its
-    /// configuration, so the index is compared; it is never another.
+    /// The desk of this lock's index, whose list begins as it was put behind the lock. All that is
+    /// known of the desk behind the lock is its configuration and that its list is of all its turns, so
+    /// the index and the list's beginning are compared; they are never others.
     pub(crate) fn lock_checked<R: Wait>(&self, rt: &R) -> Option<MutexGuard<'_, HallDesk<K>>>
-        ensures { IfSome result (λ guard. (mutex_guard_value guard).place ≡ self.now.place) }
+        ensures place { IfSome result (λ guard. (mutex_guard_value guard).place ≡ self.now.place) }
+        ensures begins { IfSome result (λ guard. IsPrefix self.now.opening.front.seen.log (mutex_guard_value guard).turns.front.seen.log) }
     {
         let desk = self.lock_desk(rt);
-        if desk.place == self.place {
+        if desk.place == self.place && desk.turns.begins_with(&self.opening) {
             Some(desk)
         } else {
             None
@@ -423,6 +425,13 @@ impl<K: HallName> HallRoom<K> {
         } else {
             None
         }
+    }
+
+    /// Whether the list of the room's turns begins with these, as it does where they aren't more.
+    pub(crate) fn begins_with(&self, turns: &RoomTurns<K>) -> bool
+        ensures { result ≡ true → IsPrefix turns.now.front.seen.log self.now.turns.front.seen.log }
+    {
+        self.turns.begins_with(turns)
     }
 
     /// Whether all that a desk of the same opening knows is published in this room.

@@ -70,6 +70,13 @@ impl<K: HallName> RoomTurnList<K> {
             .extend::<AnsweredRequest<'_>, AnsweredItem>(&self.head, &turn)
     }
 
+    /// Whether it begins with these turns, as it does where they aren't more.
+    pub(crate) fn begins_with(&self, turns: &RoomTurns<K>) -> bool
+        ensures { result ≡ true → IsPrefix turns.now.front.seen.log self.now.front.seen.log }
+    {
+        turns.front.begins(&self.front)
+    }
+
     /// The turns so far.
     pub(crate) fn turns(&self) -> RoomTurns<K>
         ensures { result.front ≡ self.now.front }

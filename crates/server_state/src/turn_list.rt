@@ -225,6 +225,16 @@ impl<K: HallName> TurnList<K> {
             .extend::<AnsweredRequests<'_>, RanItem>(&self.head, &run)
     }
 
+    /// Whether it begins with these turns, as it does where they are of the same desk and aren't more.
+    pub(crate) fn begins_with(&self, turns: &DeskTurns<K>) -> bool
+        ensures { result ≡ true → IsPrefix turns.now.front.seen.log self.now.front.seen.log }
+    {
+        if turns.place != self.place {
+            return false;
+        }
+        turns.front.begins(&self.front)
+    }
+
     /// The turns so far.
     pub(crate) fn turns(&self) -> DeskTurns<K>
         ensures place { result.place ≡ self.now.place }

@@ -145,7 +145,7 @@ pub(super) fn refusals_under_locks<K: HallName, R: SharedHallRuntime>(
         panic!(rt; "alfa is an operator");
     };
     let desk = hall.desk_at(rt, place).expect(rt, "alfa's desk");
-    let room = hall.room(rt);
+    let room = hall.room_checked(rt).expect(rt, "the author's room");
     assert!(rt; finds_nowhere(rt, alloc, hall, ALFA));
     assert!(rt; finds_nowhere(rt, alloc, hall, CITY));
     drop(room);

@@ -27,7 +27,7 @@ module _ {L : Type 0} (may_be : L → List (List ℕ) → Type 0) (is_synced : L
       (synced.0, synced.1 ++ all.0, synced.2, synced.3, (has.0, has.1, behind_among synced.1 has.0 all.0 here))
 
 pub returns : goal.returns
-returns g c configuration place requests response stamp carried all =
+returns g c configuration openings place requests response stamp carried all =
     let part = carried.answered in (
       part.asked,
       part.unasked,

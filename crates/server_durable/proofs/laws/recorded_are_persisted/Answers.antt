@@ -3,7 +3,7 @@ use Rattle.server_durable.proofs.Among.{behind_among, later_among}
 use Rattle.server_durable.proofs.laws.recorded_are_persisted.Goals as goal
 
 pub returns : goal.returns
-returns g c configuration request response stamp carried durable =
+returns g c configuration openings request response stamp carried durable =
     let synced = durable.2 in (
       carried.reply,
       carried.turn.turn,

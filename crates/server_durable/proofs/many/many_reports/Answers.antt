@@ -1,6 +1,7 @@
 use Rattle.std.proofs.Common.{◌≡◌, filter, map, sym, ap, subst, ◌∙◌}
 use Rattle.mds_script.specs.Input.{is_filled, lines}
 use Rattle.mds_request.specs.Request.{Request, request_of}
+use Rattle.server_state.specs.Openings.{openings_of}
 use Rattle.server_state.specs.WholeRequest.{request_heard}
 use Rattle.server_durable.specs.Many.{AreAskedBy, IsRefusedWhole, reports_of}
 use Rattle.server_durable.proofs.Clients.{place_within, reports_asked}
@@ -20,7 +21,7 @@ answer_all-requires-clause-asked g c =
 
 pub returns-in-Err : goal.returns-in-Err
 returns-in-Err g c =
-    told_whole (λ s. s.reply) (λ s. s.stamp) g.K.HallName.configuration c.args.place (request_heard c.args.heard.now) c.refuse.result c.in-Err.code
+    told_whole (λ s. s.reply) (λ s. s.stamp) g.K.HallName.configuration (openings_of c.args.city.now.hall) c.args.place (request_heard c.args.heard.now) c.refuse.result c.in-Err.code
     (subst (λ (r : Request). IsRefusedWhole r c.in-Err.code) c.request-request.ensures c.in-Err.ensures.refused) c.refuse.ensures
 
 pub returns-in-Ok-answer_all : goal.returns-in-Ok-answer_all
@@ -29,10 +30,10 @@ returns-in-Ok-answer_all g c =
     let requests = map request_of c.as_slice-lent.result.now in
     let replies = c.in-Ok-answer_all.replies in
     let are : requests ≡ reports_of request = ap (map request_of) c.as_slice-lent.ensures.value ∙ c.in-Ok.ensures.reports ∙ ap reports_of c.request-request.ensures in
-    told_run (λ s. s.reply) (λ s. s.stamp) g.K.HallName.configuration c.args.place request c.reply_to_all.result requests
+    told_run (λ s. s.reply) (λ s. s.stamp) g.K.HallName.configuration (openings_of c.args.city.now.hall) c.args.place request c.reply_to_all.result requests
     replies.answers.items replies.stamp are c.in-Ok-answer_all.ensures c.reply_to_all.ensures.says c.reply_to_all.ensures.stamp
 
 pub returns : goal.returns
 returns g c =
-    told_halted (λ s. s.reply) (λ s. s.stamp) g.K.HallName.configuration c.args.place (request_heard c.args.heard.now) c.refuse_all.result
+    told_halted (λ s. s.reply) (λ s. s.stamp) g.K.HallName.configuration (openings_of c.args.city.now.hall) c.args.place (request_heard c.args.heard.now) c.refuse_all.result
     c.in-Err-answer_all.halt c.refuse_all.ensures

@@ -1,5 +1,6 @@
 use Rattle.std.proofs.Common.{inl}
 use Rattle.mds_request.specs.Configuration.{actor_of}
+use Rattle.server_state.specs.Openings.{openings_of}
 use Rattle.server_state.specs.WholeRequest.{request_heard}
 use Rattle.server_durable.proofs.Responses.{ok_more, waits_more, waits_turn}
 use Rattle.server_durable.proofs.responding.answer_call.Goals as goal
@@ -13,5 +14,5 @@ returns-in-Ok-carry_out g c =
     let own = g.K.HallName.configuration in
     let request = request_heard c.args.heard in
     let answered = c.in-Ok-carry_out.answered in
-    waits_turn (λ s. s.reply) (λ s. s.stamp) own (actor_of own request.token) request c.reply.result answered.answer answered.stamp c.in-Ok-carry_out.ensures.turn
+    waits_turn (λ s. s.reply) (λ s. s.stamp) own (openings_of c.args.city.now.hall) (actor_of own request.token) request c.reply.result answered.answer answered.stamp c.in-Ok-carry_out.ensures.turn
     c.in-Ok-carry_out.ensures.listed c.reply.ensures.says c.reply.ensures.stamp

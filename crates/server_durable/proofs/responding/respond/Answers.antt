@@ -1,6 +1,7 @@
 use Rattle.std.proofs.Common.{◌≡◌, ◌∙◌, ℕ, Ok, Err, IfOk, subst, rules}
 use Rattle.http.specs.declared.request.Parts.{Parts}
 use Rattle.server_app.specs.OperatorNames.{badges_view}
+use Rattle.server_state.specs.Openings.{openings_of}
 use Rattle.server_state.specs.WholeRequest.{IsHeard, request_heard}
 use Rattle.server_routes.specs.declared.state.StateCall.TheVariants.{Call as OfProtocol, Reports, AuthorAsks, OperatorAsks, AsksFleet}
 use Rattle.server_state.specs.Turn.{SaysOne}
@@ -52,7 +53,7 @@ returns-in-Ok-Call g c =
     let heard = c.in-Ok.heard in
     let found : Ok (OfProtocol c.in-Ok-Call.call) ≡ head.call = search rules in
     let known = resolved own heard head.parts head.actor (Ok (OfProtocol c.in-Ok-Call.call)) (c.in-Ok.ensures.head ∙ c.parts.ensures) head.asks (found ∙ head.calls) in
-    answered (λ s. s.reply) (λ s. s.stamp) own (badges_view c.args.city.now.badges) head.parts
+    answered (λ s. s.reply) (λ s. s.stamp) own (openings_of c.args.city.now.hall) (badges_view c.args.city.now.badges) head.parts
     c.args.arrived.now c.args.at c.answer_call.result (request_heard heard) (Ok (OfProtocol c.in-Ok-Call.call))
     (subst (λ (p : Parts). IsHeard p c.args.arrived.now c.args.at (request_heard heard)) c.parts.ensures c.in-Ok.ensures.heard) known c.answer_call.ensures
 
@@ -63,7 +64,7 @@ returns-in-Ok-Reports g c =
     let heard = c.in-Ok.heard in
     let found : Ok (Reports c.in-Ok-Reports.place) ≡ head.call = search rules in
     let known = resolved own heard head.parts head.actor (Ok (Reports c.in-Ok-Reports.place)) (c.in-Ok.ensures.head ∙ c.parts.ensures) head.asks (found ∙ head.calls) in
-    answered (λ s. s.reply) (λ s. s.stamp) own (badges_view c.args.city.now.badges) head.parts
+    answered (λ s. s.reply) (λ s. s.stamp) own (openings_of c.args.city.now.hall) (badges_view c.args.city.now.badges) head.parts
     c.args.arrived.now c.args.at c.many_reports.result (request_heard heard) (Ok (Reports c.in-Ok-Reports.place))
     (subst (λ (p : Parts). IsHeard p c.args.arrived.now c.args.at (request_heard heard)) c.parts.ensures c.in-Ok.ensures.heard) known c.many_reports.ensures
 
@@ -74,7 +75,7 @@ returns-in-Ok-AuthorAsks g c =
     let heard = c.in-Ok.heard in
     let found : Ok (AuthorAsks c.in-Ok-AuthorAsks.question) ≡ head.call = search rules in
     let known = resolved own heard head.parts head.actor (Ok (AuthorAsks c.in-Ok-AuthorAsks.question)) (c.in-Ok.ensures.head ∙ c.parts.ensures) head.asks (found ∙ head.calls) in
-    answered (λ s. s.reply) (λ s. s.stamp) own (badges_view c.args.city.now.badges) head.parts
+    answered (λ s. s.reply) (λ s. s.stamp) own (openings_of c.args.city.now.hall) (badges_view c.args.city.now.badges) head.parts
     c.args.arrived.now c.args.at c.answer_author.result (request_heard heard) (Ok (AuthorAsks c.in-Ok-AuthorAsks.question))
     (subst (λ (p : Parts). IsHeard p c.args.arrived.now c.args.at (request_heard heard)) c.parts.ensures c.in-Ok.ensures.heard) known c.answer_author.ensures
 
@@ -87,7 +88,7 @@ returns-in-Ok-OperatorAsks g c =
     let known =
     resolved own heard head.parts head.actor (Ok (OperatorAsks c.in-Ok-OperatorAsks.place c.in-Ok-OperatorAsks.question))
     (c.in-Ok.ensures.head ∙ c.parts.ensures) head.asks (found ∙ head.calls) in
-    answered (λ s. s.reply) (λ s. s.stamp) own (badges_view c.args.city.now.badges) head.parts
+    answered (λ s. s.reply) (λ s. s.stamp) own (openings_of c.args.city.now.hall) (badges_view c.args.city.now.badges) head.parts
     c.args.arrived.now c.args.at c.answer_operator.result (request_heard heard) (Ok (OperatorAsks c.in-Ok-OperatorAsks.place c.in-Ok-OperatorAsks.question))
     (subst (λ (p : Parts). IsHeard p c.args.arrived.now c.args.at (request_heard heard)) c.parts.ensures c.in-Ok.ensures.heard) known c.answer_operator.ensures
 
@@ -99,7 +100,7 @@ returns-in-Ok-AsksFleet g c =
     let heard = c.in-Ok.heard in
     let found : Ok (AsksFleet c.in-Ok-AsksFleet.question) ≡ head.call = search rules in
     let known = resolved own heard head.parts head.actor (Ok (AsksFleet c.in-Ok-AsksFleet.question)) (c.in-Ok.ensures.head ∙ c.parts.ensures) head.asks (found ∙ head.calls) in
-    answered (λ s. s.reply) (λ s. s.stamp) own badges head.parts
+    answered (λ s. s.reply) (λ s. s.stamp) own (openings_of c.args.city.now.hall) badges head.parts
     c.args.arrived.now c.args.at c.answer_fleet.result (request_heard heard) (Ok (AsksFleet c.in-Ok-AsksFleet.question))
     (subst (λ (p : Parts). IsHeard p c.args.arrived.now c.args.at (request_heard heard)) c.parts.ensures c.in-Ok.ensures.heard) known
     (subst (λ (at : ℕ). IfOk c.answer_fleet.result (λ s. Waits (SaysOne (IsFleetReply own badges at c.in-Ok-AsksFleet.question)) s.reply)) c.moment.ensures c.answer_fleet.ensures)
@@ -111,5 +112,5 @@ returns-in-Err-call g c =
     let heard = c.in-Ok.heard in
     let found : Err c.in-Err-call.code ≡ head.call = search rules in
     let known = resolved own heard head.parts head.actor (Err c.in-Err-call.code) (c.in-Ok.ensures.head ∙ c.parts.ensures) head.asks (found ∙ head.calls) in
-    answered (λ s. s.reply) (λ s. s.stamp) own (badges_view c.args.city.now.badges) head.parts c.args.arrived.now c.args.at c.refuse-in-Err-call.result (request_heard heard) (Err c.in-Err-call.code)
+    answered (λ s. s.reply) (λ s. s.stamp) own (openings_of c.args.city.now.hall) (badges_view c.args.city.now.badges) head.parts c.args.arrived.now c.args.at c.refuse-in-Err-call.result (request_heard heard) (Err c.in-Err-call.code)
     (subst (λ (p : Parts). IsHeard p c.args.arrived.now c.args.at (request_heard heard)) c.parts.ensures c.in-Ok.ensures.heard) known c.refuse-in-Err-call.ensures

@@ -5,7 +5,9 @@ use Rattle.mds_desk.specs.Desk.{state_of}
 use Rattle.server_state.specs.WholeRequest.{request_heard}
 use Rattle.server_state.specs.TurnItem.{Answered}
 use Rattle.server_state.proofs.Clients.{caller_within}
+use Rattle.server_state.specs.Openings.{BeginsAt, openings_of}
 use Rattle.server_state.proofs.ListedTurns.{is_last}
+use Rattle.server_state.proofs.Openings.{begins_more}
 use Rattle.server_state.proofs.answering.take_desk_turn.Goals as goal
 
 pub desk_at-requires : goal.desk_at-requires
@@ -26,3 +28,14 @@ returns-clause-told g c =
     let placed : turns.place ≡ c.args.place = search rules in
     rw (← placed) (is_last own turns.place c.deref_mut.result.now.turns.front.seen.log turns.front.seen.log request reply (state_of c.deref.result.now.desk) c.in_ok-turns.ensures.turns
     (whole ∙ c.carry_out-reply.ensures.listed kept))
+
+pub returns-clause-begins : goal.returns-clause-begins
+returns-clause-begins g c =
+    let hall = c.args.context.now.hall.now in
+    let turns = c.in_ok-turns.turns in
+    let after = c.carry_out-reply.new.self in
+    let kept : after.is_lost ≡ false = search rules in
+    let whole : turns.front.seen.log ≡ after.turns.front.seen.log = search rules in
+    let begun : BeginsAt (openings_of hall) c.args.place c.deref_mut.result.now.turns.front.seen.log = search rules in
+    begins_more (openings_of hall) c.args.place c.deref_mut.result.now.turns.front.seen.log (Answered (request_heard c.args.heard) c.carry_out-reply.result ∷ [])
+    turns.front.seen.log begun (whole ∙ c.carry_out-reply.ensures.listed kept)

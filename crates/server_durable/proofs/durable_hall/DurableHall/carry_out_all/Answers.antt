@@ -8,6 +8,7 @@ use Rattle.mds_request.specs.declared.config.Actor.TheVariants.{Operator}
 use Rattle.mds_machine.proofs.Views.{prefix_self}
 use Rattle.mds_desk.specs.Desk.{state_of}
 use Rattle.server_admission.specs.Actor.{index_of}
+use Rattle.server_state.specs.Openings.{openings_of}
 use Rattle.server_durable.specs.Logged.{ShowsTurns}
 use Rattle.server_durable.specs.ManyAnswers.{IsAnsweredInPart}
 use Rattle.server_durable.proofs.Clients.{front_asked, rest_asked}
@@ -22,7 +23,8 @@ chunks-init g c =
       reached = subst (λ (replies : List Reply). Reached g.K.HallName.configuration c.args.place [] replies c.again.result desk) (sym c.in_ok-with_capacity.ensures.items)
           (reached_none g.K.HallName.configuration c.args.place c.again.result desk
           (record { configured = c.args.desk.now.configured; placed = c.args.desk.now.placed ∙ c.requires.place }));
-      listed = listed_none g.K.HallName.configuration g.N.LogName.client_of c.args.place _ c.again.result c.args.desk.now.is_lost c.args.desk.now.turns.front.seen.log;
+      listed = listed_none g.K.HallName.configuration (openings_of c.args.self.now.hall) g.N.LogName.client_of c.args.place _ c.again.result c.args.desk.now.is_lost
+          c.args.desk.now.turns.front.seen.log c.requires.begins;
       place = c.requires.place;
       owner = c.requires.owner;
       front = subst (IsPrefix c.args.records.now.own.texts) (sym (c.again.ensures ∙ c.position.ensures)) (prefix_self c.args.records.now.own.texts);
@@ -46,16 +48,17 @@ returns-in-Err g c =
     let cut : map request_of requests ≡ map request_of (take done requests) ++ map request_of rest =
     ap (map request_of) (sym (take-append-drop done requests)) ∙ map-append request_of (take done requests) (drop done requests)
     ∙ ap (λ xs. map request_of (take done requests) ++ map request_of xs) (sym (rest_is done requests)) in
-    some_answered_of (λ all. all.answers.items) (λ all. all.stamp) g.K.HallName.configuration c.args.place (map request_of (take done requests)) (map request_of rest)
-    (map request_of requests) c.chunks.replies.answers.items c.chunks.replies.stamp (state_of c.chunks.desk.desk) c.with_refusals.result cut c.chunks.invariant.reached
-    (listed_run g.K.HallName.configuration g.N.LogName.client_of c.args.place (map request_of (take done requests)) c.chunks.replies.answers.items c.chunks.replies.stamp
-    c.chunks.desk.is_lost c.chunks.desk.turns.front.seen.log (state_of c.chunks.desk.desk) c.chunks.desk.place
+    some_answered_of (λ all. all.answers.items) (λ all. all.stamp) g.K.HallName.configuration (openings_of c.args.self.now.hall) c.args.place
+    (map request_of (take done requests)) (map request_of rest) (map request_of requests) c.chunks.replies.answers.items c.chunks.replies.stamp (state_of c.chunks.desk.desk) c.with_refusals.result cut c.chunks.invariant.reached
+    (listed_run g.K.HallName.configuration (openings_of c.args.self.now.hall) g.N.LogName.client_of c.args.place (map request_of (take done requests))
+    c.chunks.replies.answers.items c.chunks.replies.stamp c.chunks.desk.is_lost c.chunks.desk.turns.front.seen.log (state_of c.chunks.desk.desk) c.chunks.desk.place
     c.args.self.now.named c.chunks.desk.configured c.chunks.desk.placed c.chunks.invariant.place c.chunks.desk.listed c.chunks.invariant.listed)
     c.with_refusals.ensures
 
 pub chunks-preserved : goal.chunks-preserved
 chunks-preserved g c =
     let own = g.K.HallName.configuration in
+    let openings = openings_of c.args.self.now.hall in
     let place = c.args.place in
     let requests = c.args.requests.now in
     let done = c.chunks.done in
@@ -74,7 +77,7 @@ chunks-preserved g c =
     let client_of = g.N.LogName.client_of in
     let lost = c.carry_out_chunk.new.desk.is_lost in
     let items = c.carry_out_chunk.new.desk.turns.front.seen.log in
-    let listed = listed_more own client_of place (map request_of (take done requests)) (map request_of chunk) c.chunks.replies.answers.items c.in-Ok.further.answers.items
+    let listed = listed_more own openings client_of place (map request_of (take done requests)) (map request_of chunk) c.chunks.replies.answers.items c.in-Ok.further.answers.items
     c.chunks.replies.stamp c.in-Ok.further.stamp c.chunks.desk.is_lost lost c.chunks.desk.turns.front.seen.log items
     (as_many_reached own place (map request_of (take done requests)) c.chunks.replies.answers.items c.chunks.replies.stamp (state_of c.chunks.desk.desk)
     c.requires.within c.chunks.invariant.reached) c.chunks.invariant.listed c.in-Ok.ensures.listed
@@ -86,10 +89,10 @@ chunks-preserved g c =
           (subst (λ (replies : List Reply). Reached own place (map request_of (take done requests) ++ map request_of chunk) replies c.extend.new.self.stamp next) (sym told.0)
           (subst (λ (texts : List (List ℕ)). Reached own place (map request_of (take done requests) ++ map request_of chunk)
           (c.chunks.replies.answers.items ++ c.in-Ok.further.answers.items) texts next) (sym told.1) reached));
-      listed = subst (λ (rs : List Request). AreListed own client_of place rs c.extend.new.self.answers.items c.extend.new.self.stamp lost items) (sym asked)
-          (subst (λ (replies : List Reply). AreListed own client_of place (map request_of (take done requests) ++ map request_of chunk) replies c.extend.new.self.stamp lost items)
+      listed = subst (λ (rs : List Request). AreListed own openings client_of place rs c.extend.new.self.answers.items c.extend.new.self.stamp lost items) (sym asked)
+          (subst (λ (replies : List Reply). AreListed own openings client_of place (map request_of (take done requests) ++ map request_of chunk) replies c.extend.new.self.stamp lost items)
           (sym told.0)
-          (subst (λ (texts : List (List ℕ)). AreListed own client_of place (map request_of (take done requests) ++ map request_of chunk)
+          (subst (λ (texts : List (List ℕ)). AreListed own openings client_of place (map request_of (take done requests) ++ map request_of chunk)
           (c.chunks.replies.answers.items ++ c.in-Ok.further.answers.items) texts lost items) (sym told.1) listed));
       place = c.in-Ok.ensures.place ∙ c.chunks.invariant.place;
       owner = c.in-Ok.ensures.owner ∙ c.chunks.invariant.owner;
@@ -102,9 +105,9 @@ returns g c =
     let requests = c.args.requests.now in
     let end : c.chunks.done ≡ length requests = omega (arith, c.chunks.invariant.within) in
     let all : take c.chunks.done requests ≡ requests = ap (λ n. take n requests) end ∙ take-length requests in
-    subst (λ rs. IsAnsweredInPart g.K.HallName.configuration c.args.place (map request_of rs) c.chunks.replies.answers.items c.chunks.replies.stamp) all
-    (all_answered g.K.HallName.configuration c.args.place (map request_of (take c.chunks.done requests)) c.chunks.replies.answers.items c.chunks.replies.stamp
+    subst (λ rs. IsAnsweredInPart g.K.HallName.configuration (openings_of c.args.self.now.hall) c.args.place (map request_of rs) c.chunks.replies.answers.items c.chunks.replies.stamp) all
+    (all_answered g.K.HallName.configuration (openings_of c.args.self.now.hall) c.args.place (map request_of (take c.chunks.done requests)) c.chunks.replies.answers.items c.chunks.replies.stamp
     (state_of c.chunks.desk.desk) c.chunks.invariant.reached
-    (listed_run g.K.HallName.configuration g.N.LogName.client_of c.args.place (map request_of (take c.chunks.done requests)) c.chunks.replies.answers.items
+    (listed_run g.K.HallName.configuration (openings_of c.args.self.now.hall) g.N.LogName.client_of c.args.place (map request_of (take c.chunks.done requests)) c.chunks.replies.answers.items
     c.chunks.replies.stamp c.chunks.desk.is_lost c.chunks.desk.turns.front.seen.log (state_of c.chunks.desk.desk) c.chunks.desk.place
     c.args.self.now.named c.chunks.desk.configured c.chunks.desk.placed c.chunks.invariant.place c.chunks.desk.listed c.chunks.invariant.listed))

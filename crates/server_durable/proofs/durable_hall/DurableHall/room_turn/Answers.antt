@@ -1,5 +1,7 @@
+use mathlib.Core.List.{IsPrefix}
 use Rattle.std.proofs.Common.{◌≡◌, IfOk, IfSome, IfNone, Ok, option_map, inl, inr, sym, ap, subst, ◌∙◌, ℕ, arith}
 use Rattle.mds_request.specs.declared.config.Actor.TheVariants.{Author}
+use Rattle.server_state.specs.Openings.{openings_of}
 use Rattle.server_state.specs.WholeRequest.{request_heard}
 use Rattle.journal_commit.specs.Clients.{Own}
 use Rattle.server_durable.specs.Logged.{OwnsTurns}
@@ -11,25 +13,30 @@ use Rattle.server_durable.proofs.durable_hall.DurableHall.room_turn.Goals as goa
 
 pub new-recording-requires-clause-owned : goal.new-recording-requires-clause-owned
 new-recording-requires-clause-owned g c =
-    let same = ap (λ records. records.own.client) c.in-Some.ensures.same in
+    let same = ap (λ records. records.own.client) c.in-Some-records_of.ensures.same in
     subst (λ (client : ℕ). IsOwnedBy g.N.LogName.client_of client c.args.reserved) (sym same) c.requires.owned
 
 pub new-recording-requires-clause-own : goal.new-recording-requires-clause-own
-new-recording-requires-clause-own g c = ap (λ records. records.own) c.in-Some.ensures.same ∙ c.requires.known
+new-recording-requires-clause-own g c = ap (λ records. records.own) c.in-Some-records_of.ensures.same ∙ c.requires.known
 
 pub take-turn-requires-clause-reserved : goal.take-turn-requires-clause-reserved
 take-turn-requires-clause-reserved g c = subst (IsReserved g.K.HallName.configuration (request_heard c.args.heard)) c.requires.held c.requires.reserved
 
 pub take-turn-requires-clause-owns : goal.take-turn-requires-clause-owns
 take-turn-requires-clause-owns g c =
-    let same = ap (λ records. records.own) c.in-Some.ensures.same ∙ c.requires.known in
-    subst (λ (own : Own). ∥ OwnsTurns g.K.HallName.configuration g.N.LogName.client_of own c.deref_mut-room.result.now.turns.front.seen.log ∥₁) same c.in-Some.ensures.owns
+    let same = ap (λ records. records.own) c.in-Some-records_of.ensures.same ∙ c.requires.known in
+    subst (λ (own : Own). ∥ OwnsTurns g.K.HallName.configuration g.N.LogName.client_of own c.deref_mut-room.result.now.turns.front.seen.log ∥₁) same c.in-Some-records_of.ensures.owns
 
 pub returns-clause-listed : goal.returns-clause-listed
 returns-clause-listed g c =
     let turn = c.take-turn in
+    let opening = (openings_of c.args.self.now.hall).room in
+    let before = c.deref_mut-room.result.now.turns.front.seen.log in
+    let begun : IsPrefix opening before =
+    subst (λ room. IsPrefix opening room.turns.front.seen.log) (sym c.deref_mut-room.ensures.value) c.in-Some.ensures in
     logged_outcome g.K.HallName.configuration g.N.LogName.client_of (λ turns. turns.front.seen.log) (λ answered. answered.answer) (λ answered. answered.stamp)
-    (request_heard c.args.heard) turn.result.answer turn.result.turns c.complete.result c.complete.ensures.answer turn.ensures.told c.complete.ensures.shows
+    opening before begun (request_heard c.args.heard) turn.result.answer turn.result.turns c.complete.result c.complete.ensures.answer turn.ensures.told
+    turn.ensures.behind c.complete.ensures.shows
 
 pub returns-clause-recorded : goal.returns-clause-recorded
 returns-clause-recorded g c =

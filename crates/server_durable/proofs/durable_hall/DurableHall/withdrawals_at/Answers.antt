@@ -16,7 +16,7 @@ returns g c =
     let own = g.K.HallName.configuration in
     let badges = badges_view c.args.self.now.badges in
     let id = c.id_at.result in
-    let here : c.deref_mut.result.now.place ≡ c.args.place = ap (λ desk. desk.place) c.deref_mut.ensures.value ∙ c.in-Some.ensures in
+    let here : c.deref_mut.result.now.place ≡ c.args.place = ap (λ desk. desk.place) c.deref_mut.ensures.value ∙ c.in-Some.ensures.place in
     let shared : configuration c.deref.result.now ≡ own = ap configuration c.deref.ensures ∙ c.in_ok-config.ensures ∙ c.args.self.now.hall.configured in
     let named : option_map (λ o. o.id) (slice_get own.operators c.args.place) ≡ Some id =
     ap (λ (cfg : Configuration). option_map (λ o. o.id) (slice_get cfg.operators c.args.place)) (sym shared) ∙ c.id_at.ensures in
