@@ -1,7 +1,8 @@
 //! Laws of a city's responses. The functions do nothing: their contracts are the laws.
-ghost use Rattle.server_durable.specs.Journals.{EndedHallsGoOn, HallsGoOn, JournalsGoOn, LogsAreJournals, NoEntriesAreAJournal, ReadConfigurationsTellClients, StoppedServersLeaveJournals};
+ghost use Rattle.server_durable.specs.Journals.{EndedHallsGoOn, HallsGoOn, JournalsGoOn, LogsAreJournals, NoEntriesAreAJournal, ReadConfigurationsTellClients, StoppedServersLeaveCompactedJournals, StoppedServersLeaveJournals};
 ghost use Rattle.server_durable.specs.Laws.{AppCallsAreNotKept, ManyAreKept, OperatorsAreToldTheirOwn, RecordedAreKept, RespondsAsAHall, ViewsAreAskedByTheOperator, ViewsAreByOwnRequests, ViewsAreByOwnRows, ViewsLeaveRows, WithdrawalsAreOfOwnPolicies};
 
+use journal_compaction::laws as compaction;
 use journal_file::Log;
 
 /// If a journal persists an exchange and its response was sent, a synced log has its record.
@@ -87,3 +88,16 @@ pub fn stopped_servers_leave_journals()
     ensures first { NoEntriesAreAJournal }
     ensures next { StoppedServersLeaveJournals }
 {}
+
+/// The same of a server whose journal was compacted any number of times, before it was started and while it was served:
+/// what the file has leads to all that was appended, by compactions (`journal_compaction::AnswersAgree`), and is what
+/// changes of the journal of one server have left.
+pub fn stopped_servers_leave_compacted_journals()
+    ensures { StoppedServersLeaveCompactedJournals }
+{
+    compaction::exchanged_are_compacted();
+    compaction::goes_on_from_thinned();
+    read_configurations_tell_clients();
+    ended_halls_go_on();
+    journals_go_on();
+}
