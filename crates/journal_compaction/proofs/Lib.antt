@@ -2,6 +2,7 @@ pub mod Asked
 pub mod Changes
 pub mod Clients
 pub mod Desks
+pub mod Exchanged
 pub mod Groups
 pub mod Journals
 pub mod Known

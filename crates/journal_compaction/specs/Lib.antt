@@ -9,3 +9,4 @@ pub mod Questions
 pub mod Replies
 pub mod Compaction
 pub mod Alike
+pub mod Exchanged

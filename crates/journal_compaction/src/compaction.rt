@@ -1,7 +1,8 @@
 //! Compaction of a journal to a new log, and the comparison of the servers of both.
 ghost use Rattle.std.specs.Prelude.{◌≡◌, [], map, Ok, IfOk, OnOk};
+ghost use Rattle.std.specs.List.{AllByRecursion};
 ghost use Rattle.mds_request.specs.Configuration.{configuration, read_configuration};
-ghost use Rattle.journal_entry.specs.Entries.{entry_of};
+ghost use Rattle.journal_entry.specs.Entries.{IsEntry, entry_of};
 ghost use Rattle.mds_snapshot.specs.Opening.{book_of};
 ghost use Rattle.journal_compaction.specs.Replies.{AreReplies};
 ghost use Rattle.journal_compaction.specs.Compaction.{IsThinned, IsJournal, AreAlike};
@@ -66,7 +67,8 @@ fn parts<'a>(
     alloc: Global,
     texts: &'a [Vec<u8>],
 ) -> Result<(&'a [u8], Vec<JournalEntry<'a>>), CompactFault>
-    ensures { IfOk result (λ r. IsJournal (map (λ t. t.items) texts.now) r.0.now (map entry_of r.1.items)) }
+    ensures journal { IfOk result (λ r. IsJournal (map (λ t. t.items) texts.now) r.0.now (map entry_of r.1.items)) }
+    ensures each { IfOk result (λ r. AllByRecursion IsEntry (map entry_of r.1.items)) }
 {
     let Some((head, rest)) = texts.split_first() else {
         return Err(CompactFault::Folder(FolderFault::Damaged(Damage::NoHead)));
@@ -150,8 +152,8 @@ fn are_alike<K: OpeningName, O: OpeningName, R: Wait>(
     }
 }
 
-/// Writes the compacted journal of an old one to a new log, which is empty, reads it back, syncs it, starts a server
-/// from each of the two, and compares their answers: to the author for the policies, the geographies and each draft
+/// Writes the compacted journal of an old one to a new log, which is empty, reads it back and compares it with what was
+/// written, syncs it, starts a server from each of the two, and compares their answers: to the author for the policies, the geographies and each draft
 /// that an entry put, and to each operator for its vehicles, byte for byte.
 ///
 /// The blanks are of one opening each, which K and O name.

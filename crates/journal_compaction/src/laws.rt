@@ -1,5 +1,6 @@
 //! Laws of compaction, and of restarts from compacted journals. Each function's contract is the law; the functions do
 //! nothing but call the laws that theirs follow from.
+ghost use Rattle.journal_compaction.specs.Exchanged.{ExchangedAreCompacted, GoesOnFromExchanged};
 ghost use Rattle.journal_compaction.specs.Laws.{RowsStay};
 ghost use Rattle.journal_compaction.specs.Restarts.{ThinnedDeskIsRecovered, DeskIsRecoveredFromJournal, RowsStayThroughout};
 ghost use Rattle.journal_compaction.specs.Restarts.{AuthorsEntriesStay, ThinnedLeadsBack, GoesOnFromThinned};
@@ -61,4 +62,18 @@ pub fn goes_on_from_thinned()
 {
     thinned_journal_leads_back();
     restarts::is_one_server();
+}
+
+/// What the file of a journal has that was exchanged while it was appended to is the journal after compactions, assuming
+/// no checksum collision: this follows from what a `journal_swap::SwapLog` over `AnswersAgree` may be of.
+pub fn exchanged_are_compacted()
+    ensures { ExchangedAreCompacted }
+{}
+
+/// What was answered before a restart from such a file, and what is done after it, are what one server did.
+pub fn goes_on_from_exchanged()
+    ensures { GoesOnFromExchanged }
+{
+    exchanged_are_compacted();
+    goes_on_from_thinned();
 }

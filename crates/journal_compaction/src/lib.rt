@@ -21,4 +21,6 @@ pub use compaction::{Counts, SourceJournal, compact};
 pub use fault::CompactFault;
 pub use folder::{compact_folder, record_compacted};
 pub use journal_location::{JournalLocation, compact_at};
-pub use prefix::{AnswersAgree, JournalPrefix, check_empty, compact_prefix};
+pub use prefix::{
+    AnswersAgree, ConfigName, JournalPrefix, SharedConfigName, check_empty, compact_prefix,
+};

@@ -12,16 +12,40 @@ use journal_swap::{CompactedLog, Equivalence};
 use mds_snapshot::{Blank, OpeningName, prepare};
 use mds_text::Moment;
 use std::alloc::Global;
-use std::marker::Brand;
+use std::marker::{Brand, PhantomData};
 use std::sync::Wait;
 
-/// The check that one journal leads to where another does: a server is started from each, and their answers are equal.
-pub struct AnswersAgree;
+/// Names the text of a configuration in the proofs: what is compacted under one name is compacted by one configuration. A
+/// program passes the text to a function that is generic over the name, and calls it with `Brand`; the proof of that call
+/// picks the text.
+pub trait ConfigName {
+    ghost use Rattle.std.specs.Prelude.{ℕ, List};
 
-impl Equivalence for AnswersAgree {
-    ghost use Rattle.journal_compaction.specs.Alike.{LeadsAlike};
+    ghost text: { List ℕ };
+}
 
-    ghost same = { LeadsAlike };
+/// The name of a configuration by which a thread compacts. `Brand` alone has it, so that the proof of a call with `Brand`
+/// can pick the text.
+pub trait SharedConfigName: ConfigName + Send + Sync {}
+
+impl SharedConfigName for Brand {}
+
+impl ConfigName for Brand {
+    ghost use Rattle.std.specs.Prelude.{[]};
+
+    ghost text = { [] };
+}
+
+/// The check that one journal is another's compacted form, by the configuration of a name, and leads to where that does:
+/// a server is started from each, and their answers are equal.
+pub struct AnswersAgree<C> {
+    of: PhantomData<C>,
+}
+
+impl<C: ConfigName> Equivalence for AnswersAgree<C> {
+    ghost use Rattle.journal_compaction.specs.Alike.{IsCompactedBy};
+
+    ghost same = { IsCompactedBy C.text };
 }
 
 /// The prefix of a journal that is to be compacted.
@@ -76,17 +100,18 @@ pub fn check_empty<L: Log>(log: L) -> Result<L, FolderFault>
 }
 
 /// Compacts a journal to a log, where both openings are named.
-fn compact_to<K: OpeningName, O: OpeningName, L: HasLogEnd, R: Wait>(
+fn compact_to<C: ConfigName, K: OpeningName, O: OpeningName, L: HasLogEnd, R: Wait>(
     rt: &R,
     alloc: Global,
     whole: &SourceWithEnd<'_>,
     log: L,
     blanks: (Blank, Blank),
-) -> Result<CompactedLog<L, AnswersAgree>, CompactFault>
+) -> Result<CompactedLog<L, AnswersAgree<C>>, CompactFault>
     requires empty { L.may_be log [] }
     requires one { book_of blanks.0 ≡ K.book }
     requires other { book_of blanks.1 ≡ O.book }
     requires sealed { IsSealed whole.now.seal (map (λ t. t.items) whole.now.old.texts.now) }
+    requires named { whole.now.old.config.now ≡ C.text }
     ensures { IfOk result (λ shorter. shorter ≡ numbers_of whole.now.seal) }
 {
     let mut log = log;
@@ -95,20 +120,21 @@ fn compact_to<K: OpeningName, O: OpeningName, L: HasLogEnd, R: Wait>(
 }
 
 /// The same, where one opening is named. It names the other.
-fn compact_to_named<K: OpeningName, L: HasLogEnd, R: Wait>(
+fn compact_to_named<C: ConfigName, K: OpeningName, L: HasLogEnd, R: Wait>(
     rt: &R,
     alloc: Global,
     whole: &SourceWithEnd<'_>,
     log: L,
     one: Blank,
     other: Blank,
-) -> Result<CompactedLog<L, AnswersAgree>, CompactFault>
+) -> Result<CompactedLog<L, AnswersAgree<C>>, CompactFault>
     requires empty { L.may_be log [] }
     requires one { book_of one ≡ K.book }
     requires sealed { IsSealed whole.now.seal (map (λ t. t.items) whole.now.old.texts.now) }
+    requires named { whole.now.old.config.now ≡ C.text }
     ensures { IfOk result (λ shorter. shorter ≡ numbers_of whole.now.seal) }
 {
-    compact_to::<K, Brand, L, R>(rt, alloc, whole, log, (one, other))
+    compact_to::<C, K, Brand, L, R>(rt, alloc, whole, log, (one, other))
 }
 
 /// Compacts the prefix of a journal to an empty log, as `compact` does: the shorter log may take the journal's place once
@@ -117,13 +143,14 @@ fn compact_to_named<K: OpeningName, L: HasLogEnd, R: Wait>(
 /// # Errors
 ///
 /// Those of `compact`, and `Folder` where the bytes aren't those up to the log end.
-pub fn compact_prefix<L: HasLogEnd, R: Wait>(
+pub fn compact_prefix<C: ConfigName, L: HasLogEnd, R: Wait>(
     rt: &R,
     alloc: Global,
     front: &JournalPrefix<'_>,
     log: L,
-) -> Result<CompactedLog<L, AnswersAgree>, CompactFault>
-    requires { L.may_be log [] }
+) -> Result<CompactedLog<L, AnswersAgree<C>>, CompactFault>
+    requires empty { L.may_be log [] }
+    requires named { front.now.config.now ≡ C.text }
     ensures { IfOk result (λ shorter. shorter ≡ numbers_of front.now.seal) }
 {
     let texts = match texts_of(alloc, front) {
@@ -144,5 +171,5 @@ pub fn compact_prefix<L: HasLogEnd, R: Wait>(
         },
         seal: front.seal,
     };
-    compact_to_named::<Brand, L, R>(rt, alloc, &whole, log, one, other)
+    compact_to_named::<C, Brand, L, R>(rt, alloc, &whole, log, one, other)
 }

@@ -1,4 +1,5 @@
 //! A journal's payloads: the head, and the entries after it.
+ghost use Rattle.std.specs.List.{AllByRecursion};
 ghost use Rattle.std.specs.Prelude.{◌≡◌, ◌⊎◌, ℕ, List, [], ◌∷◌, ◌++◌, map, drop, take, Some, None, IfOk, IfErr, OnOk, IsErrOf};
 ghost use Rattle.mds_request.specs.Configuration.{configuration};
 ghost use Rattle.journal_entry.specs.Entries.{IsEntry, entry_of, entry_text};
@@ -99,8 +100,10 @@ fn push_entry<'a>(
     number: usize,
     text: &'a [u8],
 ) -> Result<(), FolderFault>
-    ensures { OnOk result (map (λ e. entry_text (entry_of e)) entries.new.items
+    ensures texts { OnOk result (map (λ e. entry_text (entry_of e)) entries.new.items
         ≡ map (λ e. entry_text (entry_of e)) entries.old.items ++ text.now ∷ []) }
+    ensures each { OnOk result (AllByRecursion IsEntry (map entry_of entries.old.items)
+        → AllByRecursion IsEntry (map entry_of entries.new.items)) }
 {
     match read_entry(alloc, text) {
         Ok(entry) => match entries.push(entry) {
@@ -122,7 +125,8 @@ pub fn entries_in(
     first: usize,
     texts: &[Vec<u8>],
 ) -> Result<Vec<JournalEntry<'_>>, FolderFault>
-    ensures { IfOk result (λ entries. map (λ e. entry_text (entry_of e)) entries.items ≡ map (λ t. t.items) texts.now) }
+    ensures texts { IfOk result (λ entries. map (λ e. entry_text (entry_of e)) entries.items ≡ map (λ t. t.items) texts.now) }
+    ensures each { IfOk result (λ entries. AllByRecursion IsEntry (map entry_of entries.items)) }
 {
     let mut entries = Vec::new(alloc);
     for (number, text) in texts.iter().enumerate() {

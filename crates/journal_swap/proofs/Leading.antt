@@ -1,5 +1,5 @@
 -- Equivalent lists stay equivalent with more after both, and equivalence is transitive.
-use Rattle.std.proofs.Common.{◌≡◌, ℕ, List, [], ◌∷◌, ◌++◌, map, refl, sym, ap, subst, ◌∙◌, append_assoc}
+use Rattle.std.proofs.Common.{ℕ, List, [], ◌∷◌, ◌++◌, map, sym, ap, subst, ◌∙◌, append_assoc}
 use Rattle.journal_swap.specs.Leading.{LeadsBeside, LeadsBy, Leads}
 
 beside_grown : (same : List (List ℕ) → List (List ℕ) → Type 0) (one other more : List (List ℕ)) → LeadsBeside same one other → LeadsBeside same (one ++ more) (other ++ more)

@@ -1,5 +1,5 @@
 -- A compacted log that may take another's place.
-use Rattle.std.specs.Prelude.{◌≡◌, ℕ, List, [], ◌∷◌, ◌++◌}
+use Rattle.std.specs.Prelude.{ℕ, List, [], ◌∷◌, ◌++◌}
 use Rattle.std.specs.Coded.{Coded, coded_ℕ, coded_list}
 use Rattle.journal_file.specs.LogEnds.{IsSealed}
 use Rattle.journal_file.specs.declared.log_end.LogEnd.{LogEnd}

@@ -26,3 +26,16 @@ module _ (same : List (List ℕ) → List (List ℕ) → Type 0) where
   -- what a file has leads to where all that was appended does: it is equivalent to it, by some steps
   abbrev pub Leads : (one last : List (List ℕ)) → Type 0
   Leads one last = (between : List (List (List ℕ))) × LeadsBy between one last
+
+  -- The premise that there is no checksum collision: where the beginnings of two such lists have the same log end, they
+  -- are one list.
+  abbrev pub NoCollision : (one other : List (List ℕ)) → LeadsBeside one other → Type 0
+  NoCollision one other beside = HaveOneSeal beside.front beside.other_front → beside.front ≡ beside.other_front
+
+  abbrev pub NoCollisionBy : (between : List (List (List ℕ))) → (one last : List (List ℕ)) → LeadsBy between one last → Type 0
+  NoCollisionBy [] one last by = Unit {0}
+  NoCollisionBy (next ∷ between) one last by = NoCollision one next by.0 × NoCollisionBy between next last by.1
+
+  -- the same of each step
+  abbrev pub HasNoCollision : (one last : List (List ℕ)) → Leads one last → Type 0
+  HasNoCollision one last leads = NoCollisionBy leads.0 one last leads.1

@@ -17,7 +17,7 @@ use cli_config::Limits;
 use cli_host::FileHost;
 use cli_journal::{ExitCause, clear, ensure_compactions, journal_length, report_cut};
 use journal_commit::{Ballast, SharedLogName, UnnamedHistory};
-use journal_compaction::AnswersAgree;
+use journal_compaction::{AnswersAgree, ConfigName, SharedConfigName};
 use journal_file::{FileStorage, HasLogEnd, Journal, Log};
 use journal_folder::{CutFiles, Folder, FolderFault, Folders, begin_journal, open_folder};
 use journal_swap::{CompactionSchedule, CompactionSource, Handoff, SwapLog};
@@ -63,7 +63,7 @@ pub struct ConfigWithText<'a> {
 
 /// A city that is to be served, with the open files of its folder.
 #[derive(Drop)]
-struct CityOpening<'a> {
+struct CityOpening<'a, C: ConfigName> {
     /// The city's folder.
     folder: &'a str,
     /// The folder in which its journals are archived; `None` for nowhere.
@@ -75,12 +75,12 @@ struct CityOpening<'a> {
     config: Config,
     board: AdminState<'a>,
     /// Where the flusher and the compaction hand over.
-    meeting: &'a Arc<JournalHandoff>,
+    meeting: &'a Arc<JournalHandoff<C>>,
     journal: File,
     ballast: File,
 }
 
-impl CityOpening<'_> {
+impl<C: ConfigName> CityOpening<'_, C> {
     /// What swaps the journal's file for compacted ones.
     ///
     /// # Errors
@@ -89,7 +89,7 @@ impl CityOpening<'_> {
     fn journal_swapper<R: Folders + AllocGlobal + Copy + Drop>(
         &self,
         rt: &R,
-    ) -> Result<JournalSwapper<R>, ExitCause> {
+    ) -> Result<JournalSwapper<R, C>, ExitCause> {
         let meeting = Arc::try_clone(self.meeting)?;
         let counters = Arc::try_clone(self.board.shared)?;
         Ok(JournalSwapper::new(*rt, rt.alloc(), self.folder, meeting, counters)?)
@@ -110,6 +110,22 @@ pub fn serve_city<'a, R: CommandHost>(
     given: ConfigWithText<'a>,
     board: AdminState<'a>,
 ) -> Result<(), ExitCause> {
+    serve_city_as::<Brand, R>(rt, service, given, board)
+}
+
+/// The same, by the name of the configuration by which the journal is compacted.
+///
+/// # Errors
+///
+/// As `serve_city`.
+fn serve_city_as<'a, C: SharedConfigName, R: CommandHost>(
+    rt: &R,
+    service: &'a ServeOptions<'a>,
+    given: ConfigWithText<'a>,
+    board: AdminState<'a>,
+) -> Result<(), ExitCause>
+    requires { given.text.now ≡ C.text }
+{
     let ConfigWithText { config, text } = given;
     let Folder {
         lock: _lock,
@@ -151,7 +167,10 @@ pub fn serve_city<'a, R: CommandHost>(
 /// # Errors
 ///
 /// As `serve_city`.
-fn serve_and_close<R: FolderHost>(rt: &R, opening: CityOpening<'_>) -> Result<(), ExitCause> {
+fn serve_and_close<C: SharedConfigName, R: FolderHost>(
+    rt: &R,
+    opening: CityOpening<'_, C>,
+) -> Result<(), ExitCause> {
     let meeting = opening.meeting;
     let served = open_and_serve(rt, opening);
     meeting.close(rt);
@@ -163,7 +182,10 @@ fn serve_and_close<R: FolderHost>(rt: &R, opening: CityOpening<'_>) -> Result<()
 /// # Errors
 ///
 /// As `serve_city`.
-fn open_and_serve<R: FolderHost>(rt: &R, opening: CityOpening<'_>) -> Result<(), ExitCause> {
+fn open_and_serve<C: SharedConfigName, R: FolderHost>(
+    rt: &R,
+    opening: CityOpening<'_, C>,
+) -> Result<(), ExitCause> {
     match opening.journal_swapper(rt) {
         Ok(standing) => serve_with_swaps(rt, opening, standing),
         Err(ending) => Err(ending),
@@ -176,11 +198,11 @@ fn open_and_serve<R: FolderHost>(rt: &R, opening: CityOpening<'_>) -> Result<(),
 /// # Errors
 ///
 /// As `serve_city`.
-fn serve_with_swaps<B: CompactionSource<FileJournal, AnswersAgree> + Send, R: FolderHost>(
-    rt: &R,
-    opening: CityOpening<'_>,
-    beside: B,
-) -> Result<(), ExitCause> {
+fn serve_with_swaps<
+    C: SharedConfigName,
+    B: CompactionSource<FileJournal, AnswersAgree<C>> + Send,
+    R: FolderHost,
+>(rt: &R, opening: CityOpening<'_, C>, beside: B) -> Result<(), ExitCause> {
     let CityOpening {
         folder,
         archive,
@@ -206,7 +228,9 @@ fn serve_with_swaps<B: CompactionSource<FileJournal, AnswersAgree> + Send, R: Fo
         board,
     };
     let space = ReportingSpace::new(*rt, space);
-    serve_journal(rt, journal, beside, space, config, stage)
+    serve_journal::<C, B, ReportingSpace<R, Ballast<File>>, R>(
+        rt, journal, beside, space, config, stage,
+    )
 }
 
 /// Reads the journal of a folder, cuts off what wasn't synced, sees to it that what was compacted of it is recorded, and
@@ -215,7 +239,12 @@ fn serve_with_swaps<B: CompactionSource<FileJournal, AnswersAgree> + Send, R: Fo
 /// # Errors
 ///
 /// As `serve_city`.
-fn serve_journal<B: CompactionSource<FileJournal, AnswersAgree> + Send, S: SendSpace, R>(
+fn serve_journal<
+    C: SharedConfigName,
+    B: CompactionSource<FileJournal, AnswersAgree<C>> + Send,
+    S: SendSpace,
+    R,
+>(
     rt: &R,
     journal: File,
     beside: B,
@@ -235,7 +264,7 @@ where
     report_cut(rt, log.cut());
     count_bytes(rt, stage.folder, stage.board.counters);
     ensure_compactions(rt, stage.folder)?;
-    serve_swap_log(rt, log, beside, space, config, stage)
+    serve_swap_log::<C, FileJournal, B, S, R>(rt, log, beside, space, config, stage)
 }
 
 /// Starts a server from a log, whose file is swapped from now on for compacted ones by `beside`, and serves it.
@@ -244,8 +273,9 @@ where
 ///
 /// As `serve_opening`, and `NoMemory`.
 fn serve_swap_log<
+    C: SharedConfigName,
     L: HasLogEnd + Send,
-    B: CompactionSource<L, AnswersAgree> + Send,
+    B: CompactionSource<L, AnswersAgree<C>> + Send,
     S: SendSpace,
     R,
 >(
@@ -262,7 +292,7 @@ where
     requires space { S.aside space ≡ 0 }
 {
     let log = SwapLog::new(rt.alloc(), log, beside);
-    serve_log::<SwapLog<L, AnswersAgree, B>, S, R>(rt, log, space, config, stage)
+    serve_log::<SwapLog<L, AnswersAgree<C>, B>, S, R>(rt, log, space, config, stage)
 }
 
 /// Starts a server from a log and serves it.

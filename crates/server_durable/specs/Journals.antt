@@ -3,6 +3,9 @@ use mathlib.Core.List.{IsPrefix}
 use Rattle.std.specs.Prelude.{◌≡◌, ◌<◌, ◌+◌, ◌^◌, ℕ, zero, suc, false, List, [], ◌∷◌, ◌++◌, length, map, Some, Ok, slice_get}
 use Rattle.std.specs.List.{AllByRecursion}
 use Rattle.journal_commit.specs.Clients.{of_client}
+use Rattle.journal_compaction.specs.Changes.{JournalChange, appended_entries, journal_after}
+use Rattle.journal_compaction.specs.Compaction.{IsJournal}
+use Rattle.journal_compaction.specs.Exchanged.{LeadsTo}
 use Rattle.journal_entry.specs.Entries.{Entry, IsClient, IsEntry, entry_text}
 use Rattle.journal_entry.specs.Requests.{client_at}
 use Rattle.journal_entry.specs.declared.entry.EntryClient.{EntryClient}
@@ -195,6 +198,25 @@ StoppedServersLeaveJournals =
     → (ends : EndsLogged configuration (room_opened_as (held_in s.room)) (map opened_as s.desks) texts)
     → (more : List Entry) × (later : ℕ → List Turn) × ReadsAs texts more × AreOfLists configuration (lists_of ends) later
     × IsJournalOfOneServer configuration (entries ++ more) (told ++ exchanges_in ends.room) ends.r.publications (λ place. turns place ++ later place)
+
+-- The same of a server whose journal was compacted any number of times, before it was started and while it was served.
+-- All entries that were ever appended are the journal of what one server did, and a room and desks were started again
+-- from what compactions had left of them. A hall that was opened over these so ended; the log had the head and what was
+-- left, and then these payloads; and what its file has leads there. Then the file has what changes have left of all that
+-- was appended, before and since, which is the journal of what one server did. So the next one can be started from it.
+abbrev pub StoppedServersLeaveCompactedJournals : Type 0
+StoppedServersLeaveCompactedJournals =
+    (text : List ℕ) (configuration : Configuration) (changes : List JournalChange) (told : List Exchange) (publications : List Publication)
+    (turns : ℕ → List Turn) (s : Server) (texts : List (List ℕ)) (held : List (List ℕ)) (head : List ℕ)
+    → read_configuration text ≡ Ok configuration → AllByRecursion IsEntry (journal_after configuration [] changes)
+    → IsJournalOfOneServer configuration (appended_entries changes) told publications turns
+    → IsStartedAgain configuration (journal_after configuration [] changes) s
+    → (ends : EndsLogged configuration (room_opened_as (held_in s.room)) (map opened_as s.desks) texts)
+    → LeadsTo text held ((head ∷ map entry_text (journal_after configuration [] changes)) ++ texts)
+    → (further : List JournalChange) × (later : ℕ → List Turn) × AreOfLists configuration (lists_of ends) later
+    × IsJournal held head (journal_after configuration [] further)
+    × AllByRecursion IsEntry (journal_after configuration [] further)
+    × IsJournalOfOneServer configuration (appended_entries further) (told ++ exchanges_in ends.room) ends.r.publications (λ place. turns place ++ later place)
 
 -- A turn of an operator's desk that was told, with its list, is among what that desk's list has at the end, where that
 -- begins with it: so it is one of the turns whose records are the journal, behind the turns that were told before it.

@@ -1,10 +1,11 @@
 //! Laws of a city's responses. The functions change nothing: their contracts are the laws.
 ghost use Rattle.std.specs.Prelude.{◌≡◌, ◌⊎◌};
 ghost use mathlib.Core.List.{IsPrefix};
-ghost use Rattle.server_durable.specs.Journals.{EndedHallsGoOn, HallsGoOn, JournalsGoOn, LogsAreJournals, NoEntriesAreAJournal, ReadConfigurationsTellClients, StoppedServersLeaveJournals};
+ghost use Rattle.server_durable.specs.Journals.{EndedHallsGoOn, HallsGoOn, JournalsGoOn, LogsAreJournals, NoEntriesAreAJournal, ReadConfigurationsTellClients, StoppedServersLeaveCompactedJournals, StoppedServersLeaveJournals};
 ghost use Rattle.server_durable.specs.Journals.{ToldRoomTurnsAreLeft, ToldTurnsAreLeft};
 ghost use Rattle.server_durable.specs.Laws.{AppCallsAreNotKept, ManyAreKept, OperatorsAreToldTheirOwn, RecordedAreKept, RespondsAsAHall, ViewsAreAskedByTheOperator, ViewsAreByOwnRequests, ViewsAreByOwnRows, ViewsLeaveRows, WithdrawalsAreOfOwnPolicies};
 
+use journal_compaction::laws as compaction;
 use journal_file::Log;
 use server_state::{DeskTurns, HallName, RoomTurns};
 
@@ -91,6 +92,19 @@ pub fn stopped_servers_leave_journals()
     ensures first { NoEntriesAreAJournal }
     ensures next { StoppedServersLeaveJournals }
 {}
+
+/// The same of a server whose journal was compacted any number of times, before it was started and while it was served:
+/// what the file has leads to all that was appended, by compactions (`journal_compaction::AnswersAgree`), and is what
+/// changes of the journal of one server have left.
+pub fn stopped_servers_leave_compacted_journals()
+    ensures { StoppedServersLeaveCompactedJournals }
+{
+    compaction::exchanged_are_compacted();
+    compaction::goes_on_from_thinned();
+    read_configurations_tell_clients();
+    ended_halls_go_on();
+    journals_go_on();
+}
 
 /// Any two lists of turns of one desk, whenever they were given, are one list: one begins the other. So where the list at
 /// the end isn't shorter than that behind a turn which was told, it begins with that.

@@ -1,11 +1,12 @@
 -- The payloads from which a room and desks are started.
 use Rattle.std.specs.Prelude.{◌≡◌, ℕ, Bool, true, false, List, ◌∷◌, map, None}
+use Rattle.std.specs.List.{AllByRecursion}
 use Rattle.mds_request.specs.Configuration.{Configuration}
 use Rattle.mds_request.specs.declared.request.Verb.{Verb}
 use Rattle.mds_request.specs.declared.request.Verb.TheVariants.{Post}
 use Rattle.journal_entry.specs.declared.entry.EntryClient.{EntryClient}
 use Rattle.journal_entry.specs.declared.entry.EntryClient.TheVariants.{Author}
-use Rattle.journal_entry.specs.Entries.{Entry, entry_text}
+use Rattle.journal_entry.specs.Entries.{Entry, IsEntry, entry_text}
 use Rattle.journal_entry.specs.Heads.{Share, AreShares, head_text, unfit}
 use Rattle.journal_recovery.specs.Laws.{IsStartedAgain}
 use Rattle.journal_recovery.specs.Recovery.{Server}
@@ -19,11 +20,12 @@ pub record HasHead (configuration : Configuration) (dropped : List (List ℕ)) (
   pub whole : texts ≡ head_text shares ∷ rest
   pub fits : unfit configuration (needed dropped shares) ≡ None
 
--- The payloads are a head, for whose operators the configuration has room, and those of entries; the room and desks are
--- started from these, but for those of the operators that are left out.
+-- The payloads are a head, for whose operators the configuration has room, and those of entries within their limits; the
+-- room and desks are started from these, but for those of the operators that are left out.
 pub record IsStartedFrom (configuration : Configuration) (dropped texts : List (List ℕ)) (s : Server) : Type 0 where
   pub entries : List Entry
   pub head : HasHead configuration dropped texts (map entry_text entries)
+  pub each : AllByRecursion IsEntry entries
   pub started : IsStartedAgain configuration (without dropped entries) s
 
 -- whether a client's request with this verb publishes: to publish is the author's only POST

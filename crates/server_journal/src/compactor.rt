@@ -1,10 +1,12 @@
 //! Compacts the journal of a city while the city is served.
+ghost use Rattle.std.specs.Prelude.{◌≡◌};
 
 use crate::file_swap::{FileJournal, JournalHandoff};
 use crate::host::CompactorHost;
 use crate::thread_job::ThreadJob;
 use journal_compaction::{
-    AnswersAgree, CompactFault, JournalPrefix, check_empty, compact_prefix, record_compacted,
+    AnswersAgree, CompactFault, ConfigName, JournalPrefix, check_empty, compact_prefix,
+    record_compacted,
 };
 use journal_file::{FileStorage, Journal, LogEnd};
 use journal_folder::{CompactedJournal, FolderFault, archive_compacted, lock_file};
@@ -38,17 +40,18 @@ impl From<CompactFault> for NotOffered {
 /// brings the shorter one up to what is appended meanwhile, records the compaction in the folder, and hands the shorter
 /// journal to the flusher.
 #[derive(Drop)]
-pub struct Compactor<'a, R> {
+pub struct Compactor<'a, R, C: ConfigName> {
     /// The runtime, by which it waits for locks.
     pub rt: R,
     /// The city's folder.
     pub folder: &'a str,
     /// The folder in which a journal is archived before a compacted one takes its place; `None` for nowhere.
     pub archive: Option<&'a str>,
-    /// The text of the configuration.
+    /// The text of the configuration of this name.
     pub config: &'a [u8],
     /// Where the compacted journal is handed over.
-    pub meeting: &'a JournalHandoff,
+    pub meeting: &'a JournalHandoff<C>,
+    ghost named: { config.now ≡ C.text },
 }
 
 /// The next `count` bytes of a file.
@@ -73,7 +76,7 @@ fn catching_fault(fault: CatchUpFault) -> CompactFault {
     }
 }
 
-impl<R: CompactorHost> Compactor<'_, R> {
+impl<R: CompactorHost, C: ConfigName> Compactor<'_, R, C> {
     /// The path of a file in the folder.
     fn path(&self, name: &str) -> Result<String, AllocError> {
         format!(in self.rt.alloc(); "{}/{name}", self.folder)
@@ -126,7 +129,7 @@ impl<R: CompactorHost> Compactor<'_, R> {
         seal: LogEnd,
     ) -> Result<
         (
-            CompactedLog<FileJournal, AnswersAgree>,
+            CompactedLog<FileJournal, AnswersAgree<C>>,
             Option<CompactedJournal>,
         ),
         CompactFault,
@@ -153,8 +156,8 @@ impl<R: CompactorHost> Compactor<'_, R> {
     fn bring_up(
         &self,
         file: &mut File,
-        shorter: CompactedLog<FileJournal, AnswersAgree>,
-    ) -> Result<(CompactedLog<FileJournal, AnswersAgree>, u64), NotOffered> {
+        shorter: CompactedLog<FileJournal, AnswersAgree<C>>,
+    ) -> Result<(CompactedLog<FileJournal, AnswersAgree<C>>, u64), NotOffered> {
         let alloc = self.rt.alloc();
         self.meeting.request_log_end(&self.rt);
         let Some(to) = self.meeting.next(&self.rt) else {
@@ -216,7 +219,7 @@ impl<R: CompactorHost> Compactor<'_, R> {
     }
 }
 
-impl<R: CompactorHost> ThreadJob for Compactor<'_, R> {
+impl<R: CompactorHost, C: ConfigName> ThreadJob for Compactor<'_, R, C> {
     type Outcome = ();
 
     fn run(self) {

@@ -1,6 +1,6 @@
 //! Swaps the journal's file of a served city for compacted ones.
 
-use journal_compaction::AnswersAgree;
+use journal_compaction::{AnswersAgree, ConfigName};
 use journal_file::{FileStorage, Journal, LogEnd};
 use journal_folder::{FolderFault, Folders};
 use journal_swap::{CompactedLog, CompactionSource, Handoff, ReplaceFault};
@@ -12,15 +12,15 @@ use std::sync::{Arc, Wait};
 /// A journal in a file.
 pub type FileJournal = Journal<FileStorage<File>>;
 
-/// Where the flusher and the compaction hand over.
-pub type JournalHandoff = Handoff<FileJournal, AnswersAgree>;
+/// Where the flusher and the compaction hand over what is compacted by the configuration of a name.
+pub type JournalHandoff<C> = Handoff<FileJournal, AnswersAgree<C>>;
 
 /// Swaps the journal's file in a city's folder: takes compacted journals from the compaction, and renames them over the
 /// journal. It also counts the journal's bytes and syncs.
 #[derive(Drop)]
-pub struct JournalSwapper<R> {
+pub struct JournalSwapper<R, C: ConfigName> {
     rt: R,
-    meeting: Arc<JournalHandoff>,
+    meeting: Arc<JournalHandoff<C>>,
     counters: Arc<Counters>,
     /// The folder, which is synced after a file in it is renamed.
     folder: File,
@@ -30,7 +30,7 @@ pub struct JournalSwapper<R> {
     thinned: String,
 }
 
-impl<R: Folders + Drop> JournalSwapper<R> {
+impl<R: Folders + Drop, C: ConfigName> JournalSwapper<R, C> {
     /// Swaps the file of this folder's journal.
     ///
     /// # Errors
@@ -40,9 +40,9 @@ impl<R: Folders + Drop> JournalSwapper<R> {
         rt: R,
         alloc: Global,
         folder: &str,
-        meeting: Arc<JournalHandoff>,
+        meeting: Arc<JournalHandoff<C>>,
         counters: Arc<Counters>,
-    ) -> Result<JournalSwapper<R>, FolderFault> {
+    ) -> Result<JournalSwapper<R, C>, FolderFault> {
         let journal = format!(in alloc; "{folder}/journal")?;
         let thinned = format!(in alloc; "{folder}/journal.thinned")?;
         let Ok(folder) = rt.open(folder) else {
@@ -59,8 +59,9 @@ impl<R: Folders + Drop> JournalSwapper<R> {
     }
 }
 
-impl<R: Folders + Wait + Drop> CompactionSource<FileJournal, AnswersAgree> for JournalSwapper<R> {
-    fn take_ready(&mut self) -> Option<CompactedLog<FileJournal, AnswersAgree>> {
+impl<R: Folders + Wait + Drop, C: ConfigName> CompactionSource<FileJournal, AnswersAgree<C>>
+    for JournalSwapper<R, C> {
+    fn take_ready(&mut self) -> Option<CompactedLog<FileJournal, AnswersAgree<C>>> {
         self.meeting.take(&self.rt)
     }
 

@@ -13,7 +13,7 @@ returns-then-are_same g c =
     record {
       head = c.in-Ok-parts.found.0.now;
       back = map entry_of c.in-Ok-parts.found.1.items;
-      journal = c.in-Ok-parts.ensures;
+      journal = c.in-Ok-parts.ensures.journal;
       replies = c.in-Ok.replies.items;
       old = c.in-Ok.ensures;
       new = subst (λ rs. AreReplies k (map entry_of c.in-Ok-parts.found.1.items) asked rs) (sym same)

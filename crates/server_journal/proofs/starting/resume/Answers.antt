@@ -16,5 +16,5 @@ returns g c =
     if_ok _ _ c.replay_entries.result
     (λ r again. started_from of dropped (map (λ t. t.items) c.args.texts.now)
     (map (λ t. t.items) c.in-Ok.rest.now) (map entry_of all) _
-    (server_of r.0 r.1.items) c.in-Ok.ensures (texts_of all ∙ c.in-Ok-entries_in.ensures) left again)
+    (server_of r.0 r.1.items) c.in-Ok.ensures (texts_of all ∙ c.in-Ok-entries_in.ensures.texts) c.in-Ok-entries_in.ensures.each left again)
     c.replay_entries.ensures
