@@ -5,3 +5,6 @@ pub mod Grows
 pub mod Learning
 pub mod Lists
 pub mod New
+pub mod Owners
+pub mod Persisted
+pub mod Told
