@@ -34,7 +34,7 @@ use Rattle.journal_recovery.specs.Owners.{IsOneServersWork, IsReign, NothingIsOn
 use Rattle.journal_recovery.proofs.Answered.{prefix_on, prefix_self}
 use Rattle.journal_recovery.proofs.Grows.{requests_of_both}
 
-abbrev Held : Type 0
+abbrev pub Held : Type 0
 Held = Drafts × List Publication
 
 -- ---- what is published stays
@@ -76,7 +76,7 @@ room_rises : (c : Configuration) (own : Bool) (held : Held) (request : Request)
 room_rises c true held request = called_rises held (call_of c request) request
 room_rises c false held request = prefix_self held.1
 
-turn_rises : (c : Configuration) (held : Held) (request : Request) (reply : Reply) (after : Held) → IsRoomTurn c held request reply after
+pub turn_rises : (c : Configuration) (held : Held) (request : Request) (reply : Reply) (after : Held) → IsRoomTurn c held request reply after
     → IsPrefix held.1 after.1
 turn_rises c held request reply after turn = elim turn [
   | inl does ↦ subst (λ (h : Held). IsPrefix held.1 h.1) (sym does.1) (room_rises c (is_authors c request) held request)

@@ -1,7 +1,7 @@
 -- Servers one after another that write one journal. Each begins with what it finds in the journal, and ends where it is
 -- killed, or where another one has become the journal's owner: a takeover is a restart elsewhere.
 use mathlib.Core.List.{IsPrefix}
-use Rattle.std.specs.Prelude.{◌≡◌, ℕ, List, [], ◌∷◌, ◌++◌, Some, slice_get}
+use Rattle.std.specs.Prelude.{◌≡◌, ◌==◌, ℕ, List, [], ◌∷◌, ◌++◌, if◌then◌else◌, Some, slice_get}
 use Rattle.mds_catalog.specs.Publication.{Publication}
 use Rattle.mds_drafts.specs.Drafts.{Drafts}
 use Rattle.mds_request.specs.Configuration.{Configuration, Operator}
@@ -9,7 +9,7 @@ use Rattle.mds_request.specs.declared.config.Actor.TheVariants.{Author, Operator
 use Rattle.mds_machine.specs.Step.{Exchange}
 use Rattle.mds_machine.specs.Fronts.{Turn, last_front, requests_in}
 use Rattle.mds_machine.specs.OneHistory.{HasServed, exchanges_in}
-use Rattle.mds_machine.specs.Room.{AreRoomTurns, authors_in}
+use Rattle.mds_machine.specs.Room.{AreRoomTurns, IsRoomTurn, authors_in}
 use Rattle.journal_laws.specs.Persisted.{kept}
 use Rattle.journal_laws.specs.Persisted.{requests_in as room_requests_in}
 use Rattle.journal_laws.specs.Servers.{kept_turns}
@@ -40,9 +40,9 @@ pub record IsFirstOf (first whole : Work) : Type 0 where
   pub turns : (place : ℕ) → IsPrefix (first.turns place) (whole.turns place)
 
 -- The beginning of what a server did from a room and desks on: the first of it, with the publications that the
--- exchanges left, where each desk's last front lies within these. What a server told until its end, and what the journal
--- has of it, is so: a publication is in the journal before a desk answers at it, so that nothing is told at this front,
--- and no record of a turn there stands, where the publication's doesn't.
+-- exchanges left, where each desk's last front lies within these. What a server told until its end, and what the
+-- journal has of it, is so: a publication is in the journal before a desk answers at it, so that nothing is told at this
+-- front, and no record of a turn there stands, where the publication's doesn't (`FirstStepsAreABeginning`).
 pub record IsBeginning (configuration : Configuration) (s : Server) (first whole : Work) : Type 0 where
   pub order : IsFirstOf first whole
   pub published : HavePublished configuration s first.exchanges first.publications
@@ -62,6 +62,45 @@ abbrev pub PrefixesGoOn : Type 0
 PrefixesGoOn =
     (configuration : Configuration) (s : Server) (first whole : Work) → IsWorkFrom configuration s whole
     → IsBeginning configuration s first whole → IsWorkFrom configuration s first
+
+-- one step of a server: an exchange at its room, or a turn of the desk at a place
+pub data WorkStep : Type 0 where
+  at_room : Exchange → WorkStep
+  at_desk : ℕ → Turn → WorkStep
+
+abbrev pub exchanges_at : List WorkStep → List Exchange
+exchanges_at [] = []
+exchanges_at (at_room e ∷ steps) = e ∷ exchanges_at steps
+exchanges_at (at_desk place turn ∷ steps) = exchanges_at steps
+
+abbrev pub turns_at : List WorkStep → ℕ → List Turn
+turns_at [] place = []
+turns_at (at_room e ∷ steps) place = turns_at steps place
+turns_at (at_desk other turn ∷ steps) place =
+    if place == other then turn ∷ turns_at steps place else turns_at steps place
+
+-- The steps of a server in one order, in which a desk answers only at what was published before: as in that of its
+-- journal, where a publication is persisted before it is shown.
+abbrev pub AreOrdered : Configuration → Drafts × List Publication → List WorkStep → Type 0
+AreOrdered configuration held [] = Unit {0}
+AreOrdered configuration held (at_room e ∷ steps) =
+    (after : Drafts × List Publication) × IsRoomTurn configuration held e.request e.reply after
+    × AreOrdered configuration after steps
+AreOrdered configuration held (at_desk place turn ∷ steps) =
+    IsPrefix turn.front held.1 × AreOrdered configuration held steps
+
+abbrev pub work_of : List WorkStep → List Publication → Work
+work_of steps publications =
+    record { exchanges = exchanges_at steps; publications = publications; turns = turns_at steps }
+
+-- The first of such steps are a beginning of all of them, wherever they end.
+abbrev pub FirstStepsAreABeginning : Type 0
+FirstStepsAreABeginning =
+    (configuration : Configuration) (s : Server) (first rest : List WorkStep) (publications : List Publication)
+    → AreOrdered configuration (held_in s.room) (first ++ rest)
+    → ((place : ℕ) (d : DeskState) → slice_get s.desks place ≡ Some d → IsPrefix d.known s.room.publications)
+    → (shown : List Publication)
+    × IsBeginning configuration s (work_of first shown) (work_of (first ++ rest) publications)
 
 -- of each client, the persisted requests of what was told are the first that the entries have
 pub record HaveRecordsOf (configuration : Configuration) (entries : List Entry) (told : Work) : Type 0 where
@@ -108,8 +147,8 @@ pub record Reign : Type 0 where
 
 -- A reign behind these entries of all before it. The owner was started so that what these tell and what it does from
 -- there on are what one server did: as one is that was started again from them (`IsStartedAgain`), or from what
--- compaction left of them. Of what it did a beginning stands, and its entries are the journal of this: so the next owner
--- finds them behind those.
+-- compaction left of them. Of what it did a beginning stands, and its entries are the journal of this: so the next
+-- owner finds them behind those.
 pub record IsReign (configuration : Configuration) (found : List Entry) (reign : Reign) : Type 0 where
   pub started : IsOneServerFrom configuration found reign.s
   pub done : IsWorkFrom configuration reign.s reign.work

@@ -2,8 +2,9 @@
 //! from.
 ghost use Rattle.journal_recovery.specs.Laws.{AnsweredAreTurns, AnsweredByParts, FrontsAreJournals, JournalLeadsBack, GoesOnAsOneServer};
 ghost use Rattle.journal_recovery.specs.Laws.{JournalGrowsByExchange, JournalGrowsByTurn};
-ghost use Rattle.journal_recovery.specs.Owners.{NothingIsOneServersWork, OwnersAreOneServer, PrefixesAreOfOneServer};
-ghost use Rattle.journal_recovery.specs.Owners.{PrefixesGoOn, PrefixesHavePublished, PrefixesIncludeReplies};
+ghost use Rattle.journal_recovery.specs.Owners.{FirstStepsAreABeginning, NothingIsOneServersWork, OwnersAreOneServer};
+ghost use Rattle.journal_recovery.specs.Owners.{PrefixesAreOfOneServer, PrefixesGoOn, PrefixesHavePublished};
+ghost use Rattle.journal_recovery.specs.Owners.{PrefixesIncludeReplies};
 
 use journal_entry::reads_the_request;
 use journal_laws::laws as restarts;
@@ -58,10 +59,12 @@ pub fn prefixes_are_journals()
 {}
 
 /// The beginning of what a server did from a room and desks on is what a server did: of one that was killed, or that
-/// was overtaken by another owner of its journal.
+/// was overtaken by another owner of its journal. Where its desks answer only at what was published before, the first
+/// of its steps are one.
 pub fn prefixes_go_on()
     ensures published { PrefixesHavePublished }
     ensures beginnings { PrefixesGoOn }
+    ensures steps { FirstStepsAreABeginning }
 {}
 
 /// Where a prefix of a server's entries has the records of all that it told, it is the journal of the first of what it

@@ -1,3 +1,4 @@
+use Rattle.journal_recovery.proofs.Ordered.{first_steps}
 use Rattle.journal_recovery.proofs.Owners.{go_on, prefixes_have_published}
 use Rattle.journal_recovery.proofs.laws.prefixes_go_on.Goals as goal
 
@@ -6,3 +7,6 @@ returns-clause-published c = prefixes_have_published
 
 pub returns-clause-beginnings : goal.returns-clause-beginnings
 returns-clause-beginnings c = go_on
+
+pub returns-clause-steps : goal.returns-clause-steps
+returns-clause-steps c = first_steps
