@@ -15,13 +15,13 @@ use Rattle.journal_recovery.specs.Laws.{requests_by, is_turn_kept, FrontsAreJour
 use Rattle.journal_recovery.proofs.Lists.{none_some}
 use Rattle.journal_recovery.proofs.Grows.{requests_of_both}
 
-first_is : {X : Type 0} (a b : X) (xs ys : List X) → a ∷ xs ≡ b ∷ ys → a ≡ b
+pub first_is : {X : Type 0} (a b : X) (xs ys : List X) → a ∷ xs ≡ b ∷ ys → a ≡ b
 first_is a b xs ys e = ap (λ l. get_or l 0 a) e
 
-others_are : {X : Type 0} (a b : X) (xs ys : List X) → a ∷ xs ≡ b ∷ ys → xs ≡ ys
+pub others_are : {X : Type 0} (a b : X) (xs ys : List X) → a ∷ xs ≡ b ∷ ys → xs ≡ ys
 others_are a b xs ys e = ap (λ l. drop 1 l) e
 
-no_first : {X : Type 0} (a : X) (xs : List X) → a ∷ xs ≡ [] → ⊥
+pub no_first : {X : Type 0} (a : X) (xs : List X) → a ∷ xs ≡ [] → ⊥
 no_first a xs e = absurd cc
 
 -- a prefix of a mapped list is the map of a prefix
@@ -62,11 +62,11 @@ keeps_front p (x ∷ xs) front rest e = keeps_by p x xs front rest (p x) refl (k
 
 -- ---- of the author's exchanges, and of a desk's turns
 
-abbrev AuthorsFront : Configuration → List Exchange → List Request → Type 0
+abbrev pub AuthorsFront : Configuration → List Exchange → List Request → Type 0
 AuthorsFront c history front =
     (before : List Exchange) × (later : List Exchange) × (history ≡ before ++ later) × (front ≡ room_requests_in (kept c (authors_in c before)))
 
-authors_front : (c : Configuration) (history : List Exchange) (front rest : List Request)
+pub authors_front : (c : Configuration) (history : List Exchange) (front rest : List Request)
     → front ++ rest ≡ room_requests_in (kept c (authors_in c history)) → AuthorsFront c history front
 authors_front c history front rest e =
     let asked = maps_front (λ (x : Exchange). x.request) (kept c (authors_in c history)) front rest e in
@@ -75,12 +75,12 @@ authors_front c history front rest e =
     (all.0, all.1, all.2, asked.3 ∙ ap room_requests_in (sym own.3) ∙ ap (λ (h : List Exchange). room_requests_in (kept c h)) (sym all.3))
 
 -- where there is no operator, no turn is taken
-abbrev TurnsFront : Configuration → Option Operator → List Turn → List Request → Type 0
+abbrev pub TurnsFront : Configuration → Option Operator → List Turn → List Request → Type 0
 TurnsFront c found turns front =
     (before : List Turn) × (later : List Turn) × (turns ≡ before ++ later)
     × ((operator : Operator) → found ≡ Some operator → front ≡ requests_in (kept_turns c before))
 
-turns_front : (c : Configuration) (found : Option Operator) (turns : List Turn) (front rest : List Request)
+pub turns_front : (c : Configuration) (found : Option Operator) (turns : List Turn) (front rest : List Request)
     → ((operator : Operator) → found ≡ Some operator → front ++ rest ≡ requests_in (kept_turns c turns)) → TurnsFront c found turns front
 turns_front c None turns front rest e = ([], turns, refl, λ operator is. absurd (none_some operator is))
 turns_front c (Some o) turns front rest e =

@@ -26,7 +26,7 @@ use Rattle.journal_recovery.specs.Laws.{is_actor, requests_by, is_turn_kept, IsE
 use Rattle.journal_recovery.proofs.Lists.{the_same, none_some}
 use Rattle.journal_recovery.proofs.Answered.{first_own, first_other}
 
-both_true : (a b : Bool) → (a && b) ≡ true → (a ≡ true) × (b ≡ true)
+pub both_true : (a b : Bool) → (a && b) ≡ true → (a ≡ true) × (b ≡ true)
 both_true true b e = (refl, e)
 both_true false b e = absurd cc
 

@@ -5,3 +5,7 @@ pub mod Grows
 pub mod Learning
 pub mod Lists
 pub mod New
+pub mod Ordered
+pub mod Owners
+pub mod Persisted
+pub mod Told

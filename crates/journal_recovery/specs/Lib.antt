@@ -1,2 +1,3 @@
 pub mod Recovery
 pub mod Laws
+pub mod Owners

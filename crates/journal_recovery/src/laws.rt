@@ -2,6 +2,9 @@
 //! from.
 ghost use Rattle.journal_recovery.specs.Laws.{AnsweredAreTurns, AnsweredByParts, FrontsAreJournals, JournalLeadsBack, GoesOnAsOneServer};
 ghost use Rattle.journal_recovery.specs.Laws.{JournalGrowsByExchange, JournalGrowsByTurn};
+ghost use Rattle.journal_recovery.specs.Owners.{FirstStepsAreABeginning, NothingIsOneServersWork, OwnersAreOneServer};
+ghost use Rattle.journal_recovery.specs.Owners.{PrefixesAreOfOneServer, PrefixesGoOn, PrefixesHavePublished};
+ghost use Rattle.journal_recovery.specs.Owners.{PrefixesIncludeReplies};
 
 use journal_entry::reads_the_request;
 use journal_laws::laws as restarts;
@@ -53,4 +56,35 @@ pub fn journal_grows_by_turn()
 /// nothing out in between, and has nothing in part.
 pub fn prefixes_are_journals()
     ensures { FrontsAreJournals }
+{}
+
+/// The beginning of what a server did from a room and desks on is what a server did: of one that was killed, or that
+/// was overtaken by another owner of its journal. Where its desks answer only at what was published before, the first
+/// of its steps are one.
+pub fn prefixes_go_on()
+    ensures published { PrefixesHavePublished }
+    ensures beginnings { PrefixesGoOn }
+    ensures steps { FirstStepsAreABeginning }
+{}
+
+/// Where a prefix of a server's entries has the records of all that it told, it is the journal of the first of what it
+/// did, with all that it told.
+pub fn prefixes_include_replies()
+    ensures { PrefixesIncludeReplies }
+{}
+
+/// Each prefix of the entries of a journal of what one server did is the journal of what one server did. The turns that
+/// are persisted are so at any publications.
+pub fn prefixes_are_of_one_server()
+    ensures { PrefixesAreOfOneServer }
+{
+    restarts::changes_stand_apart();
+    restarts::desk_is_recovered();
+}
+
+/// What stands of servers that wrote a journal one after another, each started again from what stood of those before,
+/// is what one server did, and their entries are its journal.
+pub fn owners_are_one_server()
+    ensures none { NothingIsOneServersWork }
+    ensures owners { OwnersAreOneServer }
 {}
