@@ -283,3 +283,28 @@ fn a_night_on_the_page(rt: HostRuntime) -> Result<(), AllocError> {
     assert!(rt; has_part(&out, "</svg></td><td>3 of 4</td>"));
     Ok(())
 }
+
+/// The samples of ten weeks, one a minute.
+const MINUTES: i64 = 100_800;
+
+/// A sample of the rule at each minute from midnight on, violated all the time; `None` where memory ran out.
+fn long_samples(alloc: Global) -> Option<Vec<RuleSample>> {
+    let first = sample(0, Status::Violated, 7)?;
+    let mut all = Vec::new(alloc);
+    for minute in 0..MINUTES {
+        let at = Moment::new(MIDNIGHT + minute * 60_000)?;
+        all.push(RuleSample { at, ..first }).ok()?;
+    }
+    Some(all)
+}
+
+/// How many rows an operator's samples have, as such and in short, by those that end with these bytes.
+fn count_rows(rows: &[u8]) -> usize {
+    let mut count = 0;
+    for byte in rows {
+        if *byte == b'\n' {
+            count += 1;
+        }
+    }
+    count
+}
