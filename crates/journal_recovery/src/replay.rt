@@ -98,12 +98,12 @@ fn answer_at<K: OpeningName, R: Wait>(
 /// # Errors
 ///
 /// Why it wasn't answered with success.
-fn replay_entry<'a, K: OpeningName, R: Wait>(
+fn replay_entry<K: OpeningName, R: Wait>(
     rt: &R,
-    config: &'a Config,
+    config: &Config,
     room: &mut AuthorRoom<K>,
     desks: &mut [Desk<K>],
-    entry: &JournalEntry<'a>,
+    entry: &JournalEntry<'_>,
 ) -> Result<(), Cause>
     ensures again { OnOk result (IsAnsweredAgain (configuration config.now) (entry_of entry.now)
         (server_of room.old desks.old) (server_of room.new desks.new)) }
@@ -132,12 +132,12 @@ fn replay_entry<'a, K: OpeningName, R: Wait>(
 ///
 /// The first entry that wasn't answered with success. The room and the desks have answered those before it, and must
 /// not be used.
-pub fn recover<'a, K: OpeningName, R: Wait, P: Progress>(
+pub fn recover<K: OpeningName, R: Wait, P: Progress>(
     rt: &R,
-    config: &'a Config,
+    config: &Config,
     room: &mut AuthorRoom<K>,
     desks: &mut [Desk<K>],
-    entries: &[JournalEntry<'a>],
+    entries: &[JournalEntry<'_>],
     progress: &mut P,
 ) -> Result<(), Fault>
     ensures recovered { OnOk result (AreAnswered (configuration config.now) (map entry_of entries.now)
