@@ -284,27 +284,77 @@ fn a_night_on_the_page(rt: HostRuntime) -> Result<(), AllocError> {
     Ok(())
 }
 
-/// The samples of ten weeks, one a minute.
-const MINUTES: i64 = 100_800;
+/// How many minutes a week has, and ten weeks.
+const WEEK: i64 = 10_080;
 
-/// A sample of the rule at each minute from midnight on, violated all the time; `None` where memory ran out.
-fn long_samples(alloc: Global) -> Option<Vec<RuleSample>> {
+const TEN_WEEKS: i64 = 100_800;
+
+/// A violated sample of the rule at each of so many minutes from midnight on; `None` where memory ran out.
+fn each_minute(alloc: Global, minutes: i64) -> Option<Vec<RuleSample>> {
     let first = sample(0, Status::Violated, 7)?;
     let mut all = Vec::new(alloc);
-    for minute in 0..MINUTES {
-        let at = Moment::new(MIDNIGHT + minute * 60_000)?;
+    for minute in 0..minutes {
+        let after = minute.checked_mul(60_000)?;
+        let at = Moment::new(MIDNIGHT.checked_add(after)?)?;
         all.push(RuleSample { at, ..first }).ok()?;
     }
     Some(all)
 }
 
-/// How many rows an operator's samples have, as such and in short, by those that end with these bytes.
-fn count_rows(rows: &[u8]) -> usize {
-    let mut count = 0;
-    for byte in rows {
-        if *byte == b'\n' {
-            count += 1;
-        }
-    }
-    count
+/// How many lines a text has.
+fn count_lines(text: &[u8]) -> usize {
+    text.iter().filter(|byte| **byte == b'\n').count()
+}
+
+/// How many rows the samples of a week have; `None` where memory ran out.
+fn count_rows(alloc: Global) -> Option<usize> {
+    let zone = Zone::read(NEW_YORK).ok()?;
+    let catalogue = Catalogue::with_room(alloc).ok()?;
+    let samples = each_minute(alloc, WEEK)?;
+    let operator = operator(b"Scoot", &samples, &catalogue)?;
+    let mut rows = Vec::new(alloc);
+    push_verdicts(alloc, &mut rows, &zone, &operator).ok()?;
+    Some(count_lines(&rows))
+}
+
+/// How many rows ten weeks have in short; `None` where memory ran out.
+fn count_days(alloc: Global) -> Option<usize> {
+    let zone = Zone::read(NEW_YORK).ok()?;
+    let catalogue = Catalogue::with_room(alloc).ok()?;
+    let samples = each_minute(alloc, TEN_WEEKS)?;
+    let operator = operator(b"Scoot", &samples, &catalogue)?;
+    let mut rows = Vec::new(alloc);
+    push_summary(alloc, &mut rows, &zone, &operator).ok()?;
+    Some(count_lines(&rows))
+}
+
+/// What the page tells of an operator in a week; `None` where memory ran out.
+fn week_section(alloc: Global) -> Option<Vec<u8>> {
+    let zone = Zone::read(NEW_YORK).ok()?;
+    let catalogue = Catalogue::with_room(alloc).ok()?;
+    let samples = each_minute(alloc, WEEK)?;
+    let operator = operator(b"Scoot", &samples, &catalogue)?;
+    let after = WEEK.checked_mul(60_000)?;
+    let last = Moment::new(MIDNIGHT.checked_add(after)?)?;
+    let span = hours(Moment::new(MIDNIGHT)?, last);
+    let mut out = Vec::new(alloc);
+    push_page_operator(alloc, &mut out, &zone, span, &operator).ok()?;
+    Some(out)
+}
+
+#[test]
+fn a_week_has_a_row_for_each_minute(rt: HostRuntime) {
+    assert!(rt; count_rows(rt.alloc()) == Some(10_080));
+}
+
+/// The first day has an hour more, so that the last of seventy has one less.
+#[test]
+fn ten_weeks_in_short(rt: HostRuntime) {
+    assert!(rt; count_days(rt.alloc()) == Some(70));
+}
+
+#[test]
+fn a_week_on_the_page(rt: HostRuntime) {
+    let out = week_section(rt.alloc()).expect(&rt, "memory");
+    assert!(rt; has_part(&out, "Violated in 10080 of 10080 samples"));
 }

@@ -599,17 +599,29 @@ struct StoppedReplies {
     reply: Result<u32, CommitFault>,
 }
 
+/// Whether a response that shows no record leaves.
+fn is_read<K: LogName, L: Log, R: JoinRuntime>(
+    rt: &R,
+    keeper: &Arc<CommitLog<K, L, CountedSpace>>,
+    nothing: &LogPosition<K, L>,
+) -> bool {
+    match read(keeper, nothing) {
+        Ok(response) => matches!(block_on(rt, response), Ok(Ok(7))),
+        Err(_) => false,
+    }
+}
+
 /// Whether so many responses leave, one behind the other.
 fn are_read<K: LogName, L: Log, R: JoinRuntime>(
     rt: &R,
     keeper: &Arc<CommitLog<K, L, CountedSpace>>,
     nothing: &LogPosition<K, L>,
-) -> Result<bool, Fail> {
-    let mut reads = true;
+) -> bool {
+    let mut are_read = true;
     for _ in 0..READS {
-        reads &= block_on(rt, read(keeper, nothing)?)? == Ok(7);
+        are_read &= is_read(rt, keeper, nothing);
     }
-    Ok(reads)
+    are_read
 }
 
 /// Reserves a place, stops the log, asks for responses that want rounds, and then appends the record.
@@ -629,10 +641,7 @@ fn stop_before_append<K: LogName, L: Log, R: JoinRuntime>(
         Ok(stamp) => block_on(rt, AwaitSync::new(Arc::try_clone(keeper)?, stamp, 7u32))?,
         Err(fault) => Err(fault),
     };
-    Ok(StoppedReplies {
-        reads: reads?,
-        reply,
-    })
+    Ok(StoppedReplies { reads, reply })
 }
 
 /// Does so beside the flusher of a log, and returns how that ended and what was answered.
