@@ -8,7 +8,7 @@ choice, each of its sides is accepted. After each broken or hostile message the 
 it hadn't come. The scripts of tests/replays are run too, those whose answers don't depend on when a request comes; the others are
 named. Then come the loads of tests/load.py, one after another. With a second word one of both is done; or of the messages those that may
 run beside other work (`untimed`), those of which it is judged how soon they are answered, or by how many threads (`timed`), or those that
-wait for no deadline and no script (`exchanges`); or the short ones of the loads, side by side. A server that keeps its state has a folder
+wait for no deadline but a head's, and for no script (`exchanges`); or the short ones of the loads, side by side. A server that keeps its state has a folder
 of its own for each run, and isn't asked long questions; how it ends tests/journals.py tries. The messages take about 80 seconds, since the
 deadlines are waited for, the loads some four minutes, the short ones up to 90 seconds. Prints what differs, and last 'N passed, M
 failed'; ends with 1 where one failed.
@@ -435,12 +435,17 @@ class Patience(threading.Thread):
         return closed or after > most
 
 
-def deadlines(server, patience):
-    """Connections that miss each deadline."""
-    patience.add("a connection that says nothing", server.link(), HEAD_SECONDS, IDLE_SECONDS)
+def a_head_that_stops(server, patience):
+    """A connection whose head begins and goes no further."""
     link = server.link()
     link.send(head()[:30])
     patience.add("a head that stops", link, HEAD_SECONDS, HEAD_SECONDS)
+
+
+def deadlines(server, patience):
+    """Connections that miss each deadline."""
+    patience.add("a connection that says nothing", server.link(), HEAD_SECONDS, IDLE_SECONDS)
+    a_head_that_stops(server, patience)
     link = server.link()
     link.send(sized(REPORT)[:-20])
     patience.add("a body that stops", link, BODY_SECONDS, BODY_SECONDS)
@@ -678,12 +683,20 @@ LONG_BODIES = ("a body at its limit", "chunks at the limit")
 
 
 def exchanges(tried, program):
-    """The tests that wait for no deadline, at one server, but for those of the longest bodies."""
+    """The tests that wait for no deadline but that of a head, which is waited for while the others run, at one server, but for those of the
+    longest bodies."""
+    patience = Patience()
+    patience.start()
     with serving(program, limit=2) as server:
+        a_head_that_stops(server, patience)
         messages(tried, server, (*LONG_BODIES, *by_the_page(program)))
         tried.one("two_at_once", two_at_once(server))
+        patience.over.set()
+        patience.join()
+        for name, faults in patience.faults.items():
+            tried.one(name, faults)
         tried.one("still_silent", still_silent(server))
-    print(f"left out, and tried by make prove: deadlines, slow readers and writers, long questions, {', '.join(LONG_BODIES)}")
+    print(f"left out, and tried by make prove: other deadlines, slow readers and writers, long questions, {', '.join(LONG_BODIES)}")
 
 
 WORDS = ("messages", "untimed", "timed", "exchanges", "loads", "short-loads")

@@ -40,6 +40,7 @@ ALFA_ID, BRAVO_ID, FURTHER_ID = (identifier(9, it) for it in (0xA1, 0xB1, 0xC1))
 SQUARE, CAP, RULE = identifier(1, 1), identifier(2, 1), identifier(3, 1)
 STARTS = 30  # about how many of the changed journals are started from
 COUNT = "records, "
+PUBLICATIONS = 1_024  # at the most (docs/PROTOCOL.md)
 DISK, FILLED = 2 << 20, 1_200_000  # bytes of a small disk, and of what fills it at first
 MOST_OF_A_FILE = 300_000  # bytes of a journal that can't grow further
 LARGE = 20_000  # bytes of a report that fills either soon
@@ -413,6 +414,24 @@ def a_restart_keeps_all(small):
                 yield f"the next publication is answered {answer}"
         with city.serve() as server:
             yield from is_as_replayed(server, city, small.replay)
+
+
+def as_many_publications_as_may_be(small):
+    """A city publishes until its catalogue is full, and a restart has all of it."""
+    body = f'{{"withdraw":["{CAP}"]}}'.encode()
+    with small.copy() as city:
+        with city.serve() as server, Link(server.port) as link:
+            for revision in range(2, PUBLICATIONS + 2):
+                link.send(request("POST", "/publish", AUTHOR, body))
+                answer = link.answer()
+                if (answer.status, b'"revision":%d}' % revision in answer.body) != (200, True):
+                    break
+            if (revision, answer.status, answer.body) != (PUBLICATIONS + 1, *code(409, "catalog_full")):
+                yield f"publication {revision} is answered {answer}"
+        with city.serve() as server:
+            yield from is_as_replayed(server, city, small.replay)
+            if (answer := server.ask("POST", "/publish", AUTHOR, body)).body != code(409, "catalog_full")[1]:
+                yield f"behind a restart the next publication is answered {answer}"
 
 
 def one_program_a_folder(small):
@@ -901,6 +920,7 @@ CASES = (
     a_further_operator,
     an_operator_left_out,
     a_restart_keeps_all,
+    as_many_publications_as_may_be,
     one_program_a_folder,
     ended_by_signals,
     stopped_under_load,

@@ -74,6 +74,22 @@ int rename(const char *from, const char *to) {
     return status;
 }
 """
+# A name that a program gives to a file waits for as long as another file is there.
+HELD_NAME = b"""
+#define _GNU_SOURCE
+#include <dlfcn.h>
+#include <stdlib.h>
+#include <string.h>
+#include <unistd.h>
+
+typedef int rename_of(const char *, const char *);
+
+int rename(const char *from, const char *to) {
+    const char *of = getenv("NAME_HELD"), *by = getenv("NAME_HELD_BY");
+    while (of && by && !strcmp(to, of) && !access(by, F_OK)) usleep(5000);
+    return ((rename_of *)dlsym(RTLD_NEXT, "rename"))(from, to);
+}
+"""
 # Just before a program locks a city's journal, or opens it only to read it, and has done so a number of times, another journal and its file
 # compactions get the names of the city's. They do so once: then there is no other.
 EXCHANGED_FILES = b"""
@@ -228,6 +244,12 @@ def held(folder, file):
 def told_of(folder, file):
     """The environment of a program that tells in a file of each sync, by the path of what is synced, and of each name that it gives."""
     return os.environ | {"LD_PRELOAD": preloaded(folder, "told_sync.so", TOLD_SYNC), "SYNC_TOLD_IN": file}
+
+
+def held_name(folder, name, file):
+    """The environment of a program that gives no file this name for as long as another file is there."""
+    library = preloaded(folder, "held_name.so", HELD_NAME)
+    return os.environ | {"LD_PRELOAD": library, "NAME_HELD": name, "NAME_HELD_BY": file}
 
 
 def exchanging(city, by, call, behind=0):

@@ -6,7 +6,7 @@
 The tests of each crate that has some are built and run by `rt try --test`, and mds_replay and ruffletuff are built by `rt try`
 (tests/unproved.py) and kept in out/unproved, as many at once as there are processors and memory; a program that is there is taken, the
 proved one first, where no source is newer. Then come the scripts (replays.py), questions that are asked once and again (columns.py),
-ruffletuff on the messages that wait for no deadline and on the short loads (http.py), some kills (kills.py, contended.py), journals
+ruffletuff on the messages that wait for no deadline but a head's and on the short loads (http.py), some kills (kills.py, contended.py), journals
 (journals.py, damages.py, thinning.py), reports on the past (report.py), the control port (control.py), configurations (config.py), many
 reports at once (many.py), also beside the changes of others (shares.py), what is synced and when (syncs.py), each path by each method and
 client (routes.py), files that are imported (exchange.py), what people are told (app.py), how operators stand (oversight.py) and stood

@@ -6,10 +6,11 @@
 While a sync lasts a report that waits for it isn't answered, and isn't shown to its operator over other connections either; a refusal that
 shows nothing waits for no sync. And a thinned journal is synced before it gets the journal's name, and behind that the folder is, before
 anything else: by `thin`, and while the city is served. By then the thinning is recorded, and the journal before it archived, each on the
-disk. Wants a compiler of C (packages.py). Prints what is otherwise, and last 'N passed, M failed'; ends with 1 where one failed.
+disk: as long as the record doesn't get its name the thinned journal doesn't get the journal's. Wants a compiler of C (packages.py). Prints what is otherwise, and last 'N passed, M failed'; ends with 1 where one failed.
 """
 
 import concurrent.futures
+import itertools
 import os
 import sys
 import tempfile
@@ -17,7 +18,7 @@ import time
 
 import packages
 from journals import until
-from kept import City, ended, held, told_of, tried
+from kept import City, ended, held, held_name, told_of, tried
 from shares import is_written_behind
 from thinning import PART, RECORDED, RECORDING
 from wire import FIRST, PATIENCE, SECONDS, Link, configuration, identifier, report, request
@@ -26,6 +27,7 @@ NEW = b'{"result":"new"}'
 PAUSE = 0.5 * PATIENCE  # seconds for an answer that isn't to come
 SMALL = 20_000  # bytes of growth behind which the journal is thinned
 REPORTS = 10_000  # at the most, until it is
+BEHIND = 20  # reports while a thinning waits to be recorded
 # What shows a report: who asks what, and what the answer has.
 SHOWING = {
     "a question": (("GET", "/fleet/vehicles", FIRST), 200, identifier(4, 1).encode()),
@@ -131,7 +133,39 @@ def names_are_synced(program):
         yield from (f"by thin: {it}" for it in unsynced(city, file, archive))
 
 
+def is_reported(link, numbers, is_over):
+    """Reports these, one after another, until that is so, and gives whether it came to be so."""
+    for number in numbers:
+        link.send(request("POST", "/fleet/events", FIRST, report(1, 2_000 + number)))
+        if (answer := link.answer()).status != 200:
+            raise ValueError(f"a report is answered {answer}")
+        if is_over():
+            return True
+    return False
+
+
+def a_thinning_is_recorded_first(program):
+    """As long as the record of a thinning doesn't get its name, the thinned journal doesn't get the journal's, and reports are accepted; once
+    the record has its name, the journal has its own."""
+    with tempfile.TemporaryDirectory(prefix="syncs-") as made:
+        room = os.path.realpath(made)
+        city, hold, numbers = City(program, room, configuration()), os.path.join(room, "hold"), iter(range(REPORTS))
+        env, recording = held_name(room, os.path.join(city.folder, RECORDED), hold), os.path.join(city.folder, RECORDING)
+        with city.serve("--thin-at", str(SMALL), env=env) as server, Link(server.port) as link:
+            first = os.stat(city.journal).st_ino
+            with open(hold, "wb"):
+                is_recorded = is_reported(link, numbers, lambda: os.path.exists(recording))
+            # Each of these is written in a round of its own: if a thinned journal were offered by now, the first would give it the name.
+            is_reported(link, itertools.islice(numbers, BEHIND), lambda: False)
+            if not is_recorded or os.stat(city.journal).st_ino != first:
+                yield "a journal gets the name before its thinning is recorded"
+            os.remove(hold)
+            if not is_reported(link, numbers, lambda: os.stat(city.journal).st_ino != first):
+                yield "no other journal gets the name"
+            server.end()
+
+
 if __name__ == "__main__":
     if not packages.program("cc"):
         packages.end_without("what is synced, and when", "cc")
-    sys.exit(tried(__doc__, (what_is_not_synced_is_not_told, names_are_synced)))
+    sys.exit(tried(__doc__, (what_is_not_synced_is_not_told, names_are_synced, a_thinning_is_recorded_first)))

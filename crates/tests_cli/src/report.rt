@@ -283,3 +283,78 @@ fn a_night_on_the_page(rt: HostRuntime) -> Result<(), AllocError> {
     assert!(rt; has_part(&out, "</svg></td><td>3 of 4</td>"));
     Ok(())
 }
+
+/// How many minutes a week has, and ten weeks.
+const WEEK: i64 = 10_080;
+
+const TEN_WEEKS: i64 = 100_800;
+
+/// A violated sample of the rule at each of so many minutes from midnight on; `None` where memory ran out.
+fn each_minute(alloc: Global, minutes: i64) -> Option<Vec<RuleSample>> {
+    let first = sample(0, Status::Violated, 7)?;
+    let mut all = Vec::new(alloc);
+    for minute in 0..minutes {
+        let after = minute.checked_mul(60_000)?;
+        let at = Moment::new(MIDNIGHT.checked_add(after)?)?;
+        all.push(RuleSample { at, ..first }).ok()?;
+    }
+    Some(all)
+}
+
+/// How many lines a text has.
+fn count_lines(text: &[u8]) -> usize {
+    text.iter().filter(|byte| **byte == b'\n').count()
+}
+
+/// How many rows the samples of a week have; `None` where memory ran out.
+fn count_rows(alloc: Global) -> Option<usize> {
+    let zone = Zone::read(NEW_YORK).ok()?;
+    let catalogue = Catalogue::with_room(alloc).ok()?;
+    let samples = each_minute(alloc, WEEK)?;
+    let operator = operator(b"Scoot", &samples, &catalogue)?;
+    let mut rows = Vec::new(alloc);
+    push_verdicts(alloc, &mut rows, &zone, &operator).ok()?;
+    Some(count_lines(&rows))
+}
+
+/// How many rows ten weeks have in short; `None` where memory ran out.
+fn count_days(alloc: Global) -> Option<usize> {
+    let zone = Zone::read(NEW_YORK).ok()?;
+    let catalogue = Catalogue::with_room(alloc).ok()?;
+    let samples = each_minute(alloc, TEN_WEEKS)?;
+    let operator = operator(b"Scoot", &samples, &catalogue)?;
+    let mut rows = Vec::new(alloc);
+    push_summary(alloc, &mut rows, &zone, &operator).ok()?;
+    Some(count_lines(&rows))
+}
+
+/// What the page tells of an operator in a week; `None` where memory ran out.
+fn week_section(alloc: Global) -> Option<Vec<u8>> {
+    let zone = Zone::read(NEW_YORK).ok()?;
+    let catalogue = Catalogue::with_room(alloc).ok()?;
+    let samples = each_minute(alloc, WEEK)?;
+    let operator = operator(b"Scoot", &samples, &catalogue)?;
+    let after = WEEK.checked_mul(60_000)?;
+    let last = Moment::new(MIDNIGHT.checked_add(after)?)?;
+    let span = hours(Moment::new(MIDNIGHT)?, last);
+    let mut out = Vec::new(alloc);
+    push_page_operator(alloc, &mut out, &zone, span, &operator).ok()?;
+    Some(out)
+}
+
+#[test]
+fn a_week_has_a_row_for_each_minute(rt: HostRuntime) {
+    assert!(rt; count_rows(rt.alloc()) == Some(10_080));
+}
+
+/// The first day has an hour more, so that the last of seventy has one less.
+#[test]
+fn ten_weeks_in_short(rt: HostRuntime) {
+    assert!(rt; count_days(rt.alloc()) == Some(70));
+}
+
+#[test]
+fn a_week_on_the_page(rt: HostRuntime) {
+    let out = week_section(rt.alloc()).expect(&rt, "memory");
+    assert!(rt; has_part(&out, "Violated in 10080 of 10080 samples"));
+}

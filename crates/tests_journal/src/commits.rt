@@ -587,3 +587,113 @@ fn nothing_is_answered_after_a_failed_round(rt: HostRuntime) -> Result<(), Fail>
     assert!(rt; told.log.err() == Some(FlushFault::NotSynced));
     Ok(())
 }
+
+/// How many responses that show no record are asked for while a change is carried out.
+const READS: u32 = 16;
+
+/// Whether responses that show no record leave, each by a round of its own, behind the stop of a log in which a place is
+/// reserved; and what the change is answered whose place it is.
+#[derive(Drop)]
+struct StoppedReplies {
+    reads: bool,
+    reply: Result<u32, CommitFault>,
+}
+
+/// Whether a response that shows no record leaves.
+fn is_read<K: LogName, L: Log, R: JoinRuntime>(
+    rt: &R,
+    keeper: &Arc<CommitLog<K, L, CountedSpace>>,
+    nothing: &LogPosition<K, L>,
+) -> bool {
+    match read(keeper, nothing) {
+        Ok(response) => matches!(block_on(rt, response), Ok(Ok(7))),
+        Err(_) => false,
+    }
+}
+
+/// Whether so many responses leave, one behind the other.
+fn are_read<K: LogName, L: Log, R: JoinRuntime>(
+    rt: &R,
+    keeper: &Arc<CommitLog<K, L, CountedSpace>>,
+    nothing: &LogPosition<K, L>,
+) -> bool {
+    let mut are_read = true;
+    for _ in 0..READS {
+        are_read &= is_read(rt, keeper, nothing);
+    }
+    are_read
+}
+
+/// Reserves a place, stops the log, asks for responses that want rounds, and then appends the record.
+fn stop_before_append<K: LogName, L: Log, R: JoinRuntime>(
+    rt: &R,
+    keeper: &Arc<CommitLog<K, L, CountedSpace>>,
+    client: SoleClient<K, L>,
+    nothing: &LogPosition<K, L>,
+) -> Result<StoppedReplies, Fail> {
+    let mut client = client;
+    let Ok(place) = keeper.reserve(rt, AUTHOR, Vec::from_slice(rt.alloc(), b"one")?) else {
+        return Err("a place".into());
+    };
+    keeper.stop(rt);
+    let reads = are_read(rt, keeper, nothing);
+    let reply = match keeper.append(rt, &mut client.own, place) {
+        Ok(stamp) => block_on(rt, AwaitSync::new(Arc::try_clone(keeper)?, stamp, 7u32))?,
+        Err(fault) => Err(fault),
+    };
+    Ok(StoppedReplies { reads, reply })
+}
+
+/// Does so beside the flusher of a log, and returns how that ended and what was answered.
+fn serve_stopped<K, L, R>(
+    rt: &R,
+    opened: UnnamedHistory<L>,
+    log: L,
+) -> Result<(Result<L, FlushFault>, StoppedReplies), Fail>
+where
+    K: SharedLogName,
+    L: Log + Send + Sync,
+    R: JoinRuntime,
+    requires book { opened.seen.book ≡ K.book }
+    requires clients { (text : List ℕ) → K.client_of text ≡ AUTHOR }
+    requires listed { L.may_be log K.first }
+{
+    let space = CountedSpace {
+        left: 100_000_000,
+        aside: 0,
+    };
+    let (keeper, flusher, nothing) = open::<K, L, CountedSpace>(
+        rt.alloc(),
+        opened,
+        log,
+        space,
+        CLIENTS,
+        Confirmation::EachResponse,
+    )?;
+    let keeper = Arc::new(rt.alloc(), keeper)?;
+    let client = SoleClient::new(&nothing);
+    let (log, told) = join(
+        rt,
+        || flusher.run(rt, &keeper),
+        || stop_before_append(rt, &keeper, client, &nothing),
+    );
+    Ok((log.map(|ended| ended.into_log()), told?))
+}
+
+fn stopped_over_journal<R: JoinRuntime>(
+    rt: &R,
+) -> Result<(Result<Journal<MemoryStorage>, FlushFault>, StoppedReplies), Fail> {
+    let (log, opened) = new_journal(rt, 100)?;
+    serve_stopped::<Brand, Journal<MemoryStorage>, R>(rt, opened, log)
+}
+
+/// The flusher of a log that is stopped goes on until the change is appended for which a place is reserved, and synced.
+#[test]
+fn a_change_that_has_begun_is_written_behind_the_stop(rt: HostRuntime) -> Result<(), Fail> {
+    let (log, told) = stopped_over_journal(&rt)?;
+    assert!(rt; told.reads && told.reply == Ok(7));
+    // A mark of 44 bytes and a record of 15.
+    let medium = log.ok().ok_or("a log")?.into_storage();
+    assert!(rt; medium.is_synced && medium.bytes.len() == 59);
+    Ok(())
+}

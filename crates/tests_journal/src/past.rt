@@ -54,3 +54,35 @@ fn replies_of_the_past(rt: HostRuntime) {
     expect_compliance(&rt, alloc, 1999, NONE_YET);
     expect_compliance(&rt, alloc, 2000, WITHIN.reply);
 }
+
+/// More moments than a day has seconds.
+const MANY: i64 = 100_000;
+
+/// Each moment below `MANY`, in their order; `None` where memory ran out.
+fn many_moments(alloc: Global) -> Option<Vec<Moment>> {
+    let mut moments = Vec::new(alloc);
+    for at in 0..MANY {
+        moments.push(Moment::new(at)?).ok()?;
+    }
+    Some(moments)
+}
+
+/// How many samples alfa has at each moment below `MANY`, where nothing is published; `None` where there are none.
+fn count_samples(alloc: Global) -> Option<usize> {
+    let config = configuration(alloc)?;
+    if config.operators().is_empty() {
+        return None;
+    }
+    let moments = many_moments(alloc)?;
+    let Ok(mut replay) = OperatorReplay::new(alloc, &config, 0) else {
+        return None;
+    };
+    let found = replay.samples(alloc, &[], &moments);
+    Some(found.ok()?.len())
+}
+
+/// As many moments as one likes are sampled.
+#[test]
+fn many_moments_are_sampled(rt: HostRuntime) {
+    assert!(rt; count_samples(rt.alloc()) == Some(0));
+}

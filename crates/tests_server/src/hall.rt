@@ -27,6 +27,7 @@ use std::test::Fail;
 
 mod early;
 mod overlapping;
+mod public;
 mod resolving;
 mod session;
 
@@ -139,6 +140,7 @@ enum HallTest {
     RefusedBesideLocks,
     EachHead,
     LargeReport,
+    PublicDocuments,
 }
 
 fn run_hall_test<R: SharedHallRuntime>(rt: &R, visit: HallTest) -> Result<(), Fail> {
@@ -175,6 +177,7 @@ fn open_and_run<K: SharedHallName, R: SharedHallRuntime>(
         HallTest::RefusedBesideLocks => early::refusals_under_locks(rt, alloc, &hall),
         HallTest::EachHead => resolving::each_head(rt, alloc, &hall),
         HallTest::LargeReport => resolving::large_report(rt, alloc, &hall),
+        HallTest::PublicDocuments => public::made_once(rt, alloc, &hall),
     }
     hall.finish(rt);
     // A room that isn't finished keeps its `Arc`.
