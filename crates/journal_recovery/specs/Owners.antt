@@ -93,7 +93,8 @@ abbrev pub work_of : List WorkStep → List Publication → Work
 work_of steps publications =
     record { exchanges = exchanges_at steps; publications = publications; turns = turns_at steps }
 
--- The first of such steps are a beginning of all of them, wherever they end.
+-- Where each desk knows only what the room has published, the first of such steps are a beginning of all of them,
+-- wherever they end.
 abbrev pub FirstStepsAreABeginning : Type 0
 FirstStepsAreABeginning =
     (configuration : Configuration) (s : Server) (first rest : List WorkStep) (publications : List Publication)
