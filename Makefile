@@ -10,6 +10,7 @@
 # report   a week of River City, and the report on who broke which rule, since when, in out/report, with the command for one operator
 # test-web  the page's checks in headless Chromium (Debian's chromium and nodejs; minutes, once a server is built)
 # shots    the README's screenshots, by the same Chromium
+# cluster  a journal put into a real etcd and fetched back, beside members that die and replies that are lost (Debian's etcd-server; a minute, once a server is built)
 # openapi  checks docs/openapi.yaml against the protocol and the scripts (a python3 with the modules yaml and jsonschema)
 # bench    times mds_replay on generated input, and a program in plain Rust beside it, in three forms (minutes, once built)
 # bench-journal  times ruffletuff beside mds_serve, SQLite and PostgreSQL, thinning and a large start (minutes, once built)
@@ -18,7 +19,7 @@
 # dist-try  installs that package into a clean Debian root and asks its server (as root, minutes)
 # help     these lines
 
-.PHONY: demo test prove edits build server plain serve try report test-web shots openapi bench bench-journal stress dist dist-try help
+.PHONY: demo test prove edits build server plain serve try report test-web shots openapi bench bench-journal stress cluster dist dist-try help
 
 # What each takes where nothing is built, as far as it was seen; README.md and docs/CONTRIBUTING.md have the same.
 TEST_TIME := 14 to 22 minutes
@@ -114,6 +115,9 @@ bench-journal: server plain
 stress: build plain
 	@echo "make stress takes $(STRESS_TIME)"
 	python3 -B tests/stress.py
+
+cluster: server
+	python3 -B tests/cluster.py $(SERVER)
 
 openapi:
 	@GATE=1 python3 -B tests/openapi.py

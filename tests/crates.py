@@ -25,14 +25,14 @@ LAYERS = (
         mds_drafts mds_snapshot mds_append_list mds_request mds_config_error mds_machine mds_world mds_desk
         mds_script"""),
     ("Journal", "`journal_`: what a disk keeps", """
-        journal_laws journal_file journal_swap journal_register journal_etcd journal_remote journal_gateway journal_cluster journal_entry
-        journal_commit journal_recovery journal_folder journal_samples journal_compaction"""),
+        journal_laws journal_file journal_swap journal_register journal_etcd journal_remote journal_gateway journal_cluster
+        journal_entry journal_commit journal_recovery journal_folder journal_samples journal_compaction"""),
     ("Server", "`server_`: from a socket to the core", """
         server_admission server_responses server_app server_state server_public server_http server_start server_settings server_page
         server_routes server_control server_durable server_past server_journal server_site"""),
     ("Command line", "`cli_`: what a shell asks for", """
         cli_host cli_args cli_timezone cli_config cli_calendar cli_client cli_documents cli_report cli_vehicles cli_transfer
-        cli_journal cli_report_command"""),
+        cli_log cli_journal cli_report_command"""),
     ("Programs", "what is run", """
         mds_replay mds_serve ruffletuff"""),
     ("Tests", "`tests_`: tests and worked examples", """

@@ -697,6 +697,9 @@ WRONG = (
     (("stop", "127.0.0.1:1", "now"), "stop ADDRESS"),
     (("import", "drafts", "a.json", "--dry-run"), SENT),
     (("export", "out", "--from", "127.0.0.1:1"), "export DIR --from ADDRESS --token-file PATH"),
+    (("status",), "status --log CLUSTER --city NAME [--log-user PATH]"),
+    (("fetch", "city", "--log", "etcd:127.0.0.1:1"), "fetch DIR --log CLUSTER --city NAME [--log-user PATH]"),
+    (("seed", "city", "--city", "portland"), "seed DIR --log CLUSTER --city NAME [--log-user PATH]"),
 )
 
 

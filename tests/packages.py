@@ -24,6 +24,7 @@ PACKAGES = {
     "curl": "curl",
     "tzdata": "tzdata",
     "cc": "gcc libc6-dev",
+    "etcd": "etcd-server",
 }
 # What has to be there of a module that an old package lacks.
 PROBES = {"jsonschema": "jsonschema.Draft202012Validator"}

@@ -1,12 +1,14 @@
 -- What the arguments behind the program's name ask for.
-use Rattle.std.specs.Prelude.{ℕ, Bool, true, false, not, ◌&&◌, List, [], ◌∷◌, bytes_eq, codes, option_map, unwrap_or, if◌then◌else◌, Option, Some, None}
+use Rattle.std.specs.Prelude.{ℕ, Bool, true, false, not, ◌&&◌, ◌||◌, List, [], ◌∷◌, bytes_eq, codes, option_map, unwrap_or, if◌then◌else◌, Option, Some, None}
 use Rattle.uuid.specs.Text.{parsed}
 use Rattle.cli_args.specs.Options.{value_of, are_options, moment_in, count_in}
+use Rattle.cli_args.specs.Logs.{Log, log_of, log_place_in, log_view}
+use Rattle.cli_args.specs.Logs.{status as status_at}
 use Rattle.cli_args.specs.Transfers.{Job, errand_of, errand_view}
 use Rattle.cli_args.specs.Reports.{Report, report_of, report_view}
 use Rattle.cli_args.specs.declared.command.TheConstants.{THIN_AT}
 use Rattle.cli_args.specs.declared.command.CliCommand.{CliCommand}
-use Rattle.cli_args.specs.declared.command.CliCommand.TheVariants.{Help, Version, Serve, Check, CheckConfig, Audit, Report as ReportOn, Thin, Stop, Errand}
+use Rattle.cli_args.specs.declared.command.CliCommand.TheVariants.{Help, Version, Serve, Check, CheckConfig, Audit, Report as ReportOn, Thin, Stop, Errand, Log as OnLog}
 
 -- what the program is asked to do
 pub data Request : Type 0 where
@@ -21,6 +23,7 @@ pub data Request : Type 0 where
   report : Report → Request
   stop : (address : List ℕ) → Request
   errand : Job → Request
+  log : Log → Request
 
 -- a value that may be left out: `Some None` without it, `None` where it can't be read
 abbrev pub read_if : {A : Type 0} → (List ℕ → Option A) → Option (List ℕ) → Option (Option A)
@@ -105,21 +108,42 @@ asked_with verb name =
 abbrev pub asked_errand : List ℕ → List ℕ → List (List ℕ) → Option Request
 asked_errand verb name words = option_map errand (errand_of verb name words)
 
+-- what `fetch` or `seed` asks for
+abbrev pub asked_log : List ℕ → List ℕ → List (List ℕ) → Option Request
+asked_log verb folder words = option_map log (log_of verb folder words)
+
+-- what `status` asks for
+abbrev pub asked_status : List (List ℕ) → Option Request
+asked_status words = option_map log (option_map status_at (log_place_in words))
+
+-- what a verb asks for that is about no folder alone: another server, or etcd
+unfoldable pub asked_elsewhere : List ℕ → List ℕ → List (List ℕ) → Option Request
+asked_elsewhere verb name words =
+    if bytes_eq verb (codes "fetch") || bytes_eq verb (codes "seed") then asked_log verb name words
+    else asked_errand verb name words
+
 -- what a verb asks for, with its first argument and those behind it, which `stop` hasn't
 abbrev pub asked_of : List ℕ → List ℕ → List (List ℕ) → Option Request
 asked_of verb name [] = asked_with verb name
 asked_of verb name (word ∷ words) =
     if bytes_eq verb (codes "check") then asked_to_check name (word ∷ words)
     else (if bytes_eq verb (codes "audit") then asked_to_audit name (word ∷ words)
-    else (if bytes_eq verb (codes "thin") then asked_to_thin name (word ∷ words) else asked_errand verb name (word ∷ words)))
+    else (if bytes_eq verb (codes "thin") then asked_to_thin name (word ∷ words)
+    else asked_elsewhere verb name (word ∷ words)))
+
+-- what a verb other than `serve` asks for, with the arguments behind it
+unfoldable pub asked_behind : List ℕ → List (List ℕ) → Option Request
+asked_behind verb [] = None
+asked_behind verb (word ∷ words) =
+    if bytes_eq verb (codes "report") then asked_to_report (word ∷ words)
+    else (if bytes_eq verb (codes "status") then asked_status (word ∷ words) else asked_of verb word words)
 
 -- what the arguments behind the program's name ask for
 abbrev pub asked_by : List (List ℕ) → Option Request
 asked_by [] = None
 asked_by (word ∷ []) = asked_alone word
 asked_by (verb ∷ word ∷ words) =
-    if bytes_eq verb (codes "serve") then asked_to_serve (word ∷ words)
-    else (if bytes_eq verb (codes "report") then asked_to_report (word ∷ words) else asked_of verb word words)
+    if bytes_eq verb (codes "serve") then asked_to_serve (word ∷ words) else asked_behind verb (word ∷ words)
 
 abbrev pub asked_view : CliCommand → Request
 asked_view Help = help
@@ -134,3 +158,4 @@ asked_view (Thin t) = thin t.folder.now t.config.now (option_map (λ word. word.
 asked_view (ReportOn r) = report (report_view r)
 asked_view (Stop address) = stop address.now
 asked_view (Errand e) = errand (errand_view e)
+asked_view (OnLog l) = log (log_view l)

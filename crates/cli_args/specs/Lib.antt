@@ -4,3 +4,4 @@ pub mod Transfers
 pub mod Reports
 pub mod Versions
 pub mod Usage
+pub mod Logs

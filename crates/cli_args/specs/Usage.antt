@@ -15,7 +15,11 @@ usage_by verb =
     else (if bytes_eq verb (codes "stop") then codes "stop ADDRESS"
     else (if bytes_eq verb (codes "import")
     then codes "import policies|status FILE.. --to ADDRESS --token-file PATH [--dry-run]"
-    else (if bytes_eq verb (codes "export") then codes "export DIR --from ADDRESS --token-file PATH" else serve_usage))))))
+    else (if bytes_eq verb (codes "export") then codes "export DIR --from ADDRESS --token-file PATH"
+    else (if bytes_eq verb (codes "status") then codes "status --log CLUSTER --city NAME [--log-user PATH]"
+    else (if bytes_eq verb (codes "fetch") then codes "fetch DIR --log CLUSTER --city NAME [--log-user PATH]"
+    else (if bytes_eq verb (codes "seed") then codes "seed DIR --log CLUSTER --city NAME [--log-user PATH]"
+    else serve_usage)))))))))
 
 -- that of the command which arguments begin; without any that of `serve`
 abbrev pub usage_of : List (List ℕ) → List ℕ

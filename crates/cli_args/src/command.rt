@@ -2,8 +2,9 @@
 ghost use Rattle.std.specs.Prelude.{◌≡◌, ◌∷◌, map, string_bytes, option_map};
 ghost use Rattle.uuid.specs.Text.{parsed};
 ghost use Rattle.cli_args.specs.Options.{moment_in, count_in};
-ghost use Rattle.cli_args.specs.Commands.{read_if, asked_to_serve, asked_to_audit, asked_to_thin, asked_to_check, asked_to_report, asked_alone, asked_with, asked_of, asked_errand, asked_by, asked_view};
+ghost use Rattle.cli_args.specs.Commands.{read_if, asked_to_serve, asked_to_audit, asked_to_thin, asked_to_check, asked_to_report, asked_alone, asked_with, asked_of, asked_elsewhere, asked_behind, asked_errand, asked_log, asked_status, asked_by, asked_view};
 
+use crate::logs::{LogCommand, log_of, status_of};
 use crate::moment::{count_of, moment_of};
 use crate::options::{are_options, value_of};
 use crate::report::ReportOptions;
@@ -88,6 +89,8 @@ pub enum CliCommand<'a> {
     Stop(&'a str),
     /// To import files into a server, or to export what it has published.
     Errand(Transfer<'a>),
+    /// To do something with a city's journal in etcd.
+    Log(LogCommand<'a>),
 }
 
 /// Reads a value that may be left out as an identifier: `Some(None)` without a value, `None` where it is no identifier.
@@ -248,7 +251,7 @@ fn one_argument_command<'a>(verb: &str, name: &'a str) -> Option<CliCommand<'a>>
     }
 }
 
-/// What a verb other than `serve` and `report` asks for, with its first argument and those behind it.
+/// What a verb other than `serve`, `report` and `status` asks for, with its first argument and those behind it.
 fn verb_command<'a>(verb: &str, name: &'a str, words: &'a [String]) -> Option<CliCommand<'a>>
     ensures { option_map asked_view result ≡ asked_of verb.now name.now (map string_bytes words.now) }
 {
@@ -261,7 +264,39 @@ fn verb_command<'a>(verb: &str, name: &'a str, words: &'a [String]) -> Option<Cl
     } else if verb == "thin" {
         thin_command(name, words)
     } else {
+        elsewhere_command(verb, name, words)
+    }
+}
+
+/// What a verb asks for that is about another server or etcd, with its first argument and those behind it.
+#[tactic(auto, unfolding(crate::specs::Commands::asked_elsewhere))]
+fn elsewhere_command<'a>(verb: &str, name: &'a str, words: &'a [String]) -> Option<CliCommand<'a>>
+    ensures { option_map asked_view result ≡ asked_elsewhere verb.now name.now (map string_bytes words.now) }
+{
+    if verb == "fetch" || verb == "seed" {
+        log_command(verb, name, words)
+    } else {
         transfer_command(verb, name, words)
+    }
+}
+
+/// What `fetch` or `seed` asks for, with a folder and options.
+fn log_command<'a>(verb: &str, folder: &'a str, words: &'a [String]) -> Option<CliCommand<'a>>
+    ensures { option_map asked_view result ≡ asked_log verb.now folder.now (map string_bytes words.now) }
+{
+    match log_of(verb, folder, words) {
+        Some(asked) => Some(CliCommand::Log(asked)),
+        None => None,
+    }
+}
+
+/// What `status` asks for, with its options.
+fn status_command(words: &[String]) -> Option<CliCommand<'_>>
+    ensures { option_map asked_view result ≡ asked_status (map string_bytes words.now) }
+{
+    match status_of(words) {
+        Some(asked) => Some(CliCommand::Log(asked)),
+        None => None,
     }
 }
 
@@ -275,6 +310,23 @@ fn transfer_command<'a>(verb: &str, name: &'a str, words: &'a [String]) -> Optio
     }
 }
 
+/// What a verb other than `serve` asks for, with the arguments behind it.
+#[tactic(auto, unfolding(crate::specs::Commands::asked_behind))]
+fn command_behind<'a>(verb: &str, words: &'a [String]) -> Option<CliCommand<'a>>
+    ensures { option_map asked_view result ≡ asked_behind verb.now (map string_bytes words.now) }
+{
+    let [name, rest @ ..] = words else {
+        return None;
+    };
+    if verb == "report" {
+        report_command(words)
+    } else if verb == "status" {
+        status_command(words)
+    } else {
+        verb_command(verb, name.as_str(), rest)
+    }
+}
+
 /// What the arguments behind the program's name ask for; `None` for any others than those of `HELP`.
 pub fn parse_command(words: &[String]) -> Option<CliCommand<'_>>
     ensures { option_map asked_view result ≡ asked_by (map string_bytes words.now) }
@@ -283,7 +335,6 @@ pub fn parse_command(words: &[String]) -> Option<CliCommand<'_>>
         [] => None,
         [word] => single_word_command(word.as_str()),
         [verb, rest @ ..] if verb.as_str() == "serve" => serve_command(rest),
-        [verb, rest @ ..] if verb.as_str() == "report" => report_command(rest),
-        [verb, name, rest @ ..] => verb_command(verb.as_str(), name.as_str(), rest),
+        [verb, rest @ ..] => command_behind(verb.as_str(), rest),
     }
 }

@@ -3,6 +3,7 @@
 
 mod command;
 mod commit;
+mod logs;
 mod moment;
 mod options;
 mod report;
@@ -14,6 +15,7 @@ mod version;
 
 pub use command::{AuditOptions, CliCommand, ServeOptions, ThinOptions, parse_command};
 pub use commit::COMMIT;
+pub use logs::{LogCommand, LogPlace};
 pub use moment::moment_of;
 pub use report::ReportOptions;
 pub use text::{HELP, VERSION};

@@ -31,6 +31,12 @@ ruffletuff import status FILE.. --to ADDRESS --token-file PATH [--dry-run]
     it says what would be, and --to and the token may be left out
 ruffletuff export DIR --from ADDRESS --token-file PATH
     writes what is published at a server as files of MDS 2.0 and GeoJSON
+ruffletuff status --log CLUSTER --city NAME [--log-user PATH]
+    says who owns a city's journal in etcd, and how far it goes
+ruffletuff fetch DIR --log CLUSTER --city NAME [--log-user PATH]
+    writes it into a folder that has none, where check, audit and serve read it
+ruffletuff seed DIR --log CLUSTER --city NAME [--log-user PATH]
+    puts a folder's journal into etcd, where the city has none
 ruffletuff --help
     says this
 ruffletuff --version
@@ -73,8 +79,11 @@ ID       an operator, by its UUID. --drop leaves out what the journal has of
          an operator that isn't in the configuration any more; --operator
          prints its requests and the author's alone, or reports it alone
 NAME     one more name, without a port, by which the control port may be called,
-         as a browser or a proxy gives it in the field Host
-PATH     a file with the access token alone; one line end behind it is no part
+         as a browser or a proxy gives it in the field Host. Behind --city the
+         city's name in etcd: 1 to 64 letters, digits, '-' and '_'
+CLUSTER  the members of an etcd cluster, as etcd:HOST:PORT,HOST:PORT
+PATH     behind --log-user a file with a user of etcd, as name:password; else
+         a file with the access token alone; one line end behind it is no part
          of it. In the place of --token-file PATH stands --token TOKEN, which
          each user of the machine sees while the program runs
 MOMENT   in milliseconds of the Unix epoch: the requests before the first later
@@ -89,20 +98,24 @@ fault standard error says which.
 
 Exit status: 0 done
              1 nothing can be listened to at ADDRESS, no server there stops or
-               gives a whole answer, or standard output can't be written
-             2 the arguments, the configuration, a time of a report or a token's
-               file are wrong
+               gives a whole answer, no member of CLUSTER gives one, or standard
+               output can't be written
+             2 the arguments, the configuration, a time of a report, or the file
+               of a token or a user are wrong
              3 memory ran out
-             4 a folder can't be used, or another program has it; or a report's
-               folder isn't there, or has one of its files
+             4 a folder can't be used, or another program has it; a report's
+               folder isn't there, or has one of its files; the one to fetch
+               into has a journal, or the one to seed from has none
              5 the journal is damaged, or of another version; of check, also if
                bytes stand behind its records that no kill leaves
              6 the configuration doesn't fit the journal
              7 the journal, the thinned one, the archive or a report couldn't be
-               written
+               written, or it isn't known whether etcd has what was put there
              8 the thinned journal leads to another city, and wasn't taken
-             9 something that was read isn't sent, or was refused
-            10 the server takes nothing by this access token
+             9 something that was read isn't sent, or was refused; or the city
+               has no journal in etcd to fetch, or has one, and none is put
+            10 the server takes nothing by this access token, or etcd nothing
+               from this user
 
 Example:
   ruffletuff serve --config city.json --state city --listen 127.0.0.1:8080

@@ -23,6 +23,12 @@ fn usage_by(verb: &str) -> &'static str
         "import policies|status FILE.. --to ADDRESS --token-file PATH [--dry-run]"
     } else if verb == "export" {
         "export DIR --from ADDRESS --token-file PATH"
+    } else if verb == "status" {
+        "status --log CLUSTER --city NAME [--log-user PATH]"
+    } else if verb == "fetch" {
+        "fetch DIR --log CLUSTER --city NAME [--log-user PATH]"
+    } else if verb == "seed" {
+        "seed DIR --log CLUSTER --city NAME [--log-user PATH]"
     } else {
         SERVE
     }

@@ -1,5 +1,6 @@
 //! Serves one city over HTTP and persists what it accepts: each accepted change is in a journal, synced, before it is
-//! answered. It also checks how a journal ends, prints one as a script, compacts one, and stops a server.
+//! answered. It also checks how a journal ends, prints one as a script, compacts one, fetches one from etcd or puts one
+//! there, and stops a server.
 #![tactic(auto)]
 
 mod admin;

@@ -14,6 +14,7 @@ use cli_journal::{
     ConfigFile, ExitCause, audit, check, check_archive_of, compact, configuration_in,
     read_text_and_report, report_exit, report_usage,
 };
+use cli_log::run_log;
 use cli_report_command::report;
 use cli_transfer::run_transfer;
 use server_control::{Control, ControlClientRuntime, stop};
@@ -66,6 +67,7 @@ fn carry_out<R: CommandHost>(rt: &R, asked: &CliCommand<'_>) -> Result<u8, ExitC
         CliCommand::Report(options) => report(rt, options),
         CliCommand::Stop(address) => stop_server(rt, *address),
         CliCommand::Errand(errand) => return Ok(run_transfer(rt, errand)),
+        CliCommand::Log(asked) => return Ok(run_log(rt, asked)),
     };
     match done {
         Ok(()) => Ok(0),

@@ -14,6 +14,8 @@ mod config;
 #[cfg(test)]
 mod documents;
 #[cfg(test)]
+mod logs;
+#[cfg(test)]
 mod report;
 #[cfg(test)]
 mod report_rules;
