@@ -8,7 +8,7 @@ use Rattle.journal_entry.specs.declared.entry.TheConstants.{ENTRY}
 use Rattle.journal_entry.proofs.Spelled.{same_entry, same_fields, same_head}
 use Rattle.journal_recovery.specs.Laws.{IsOneServerFrom, new_server}
 use Rattle.journal_recovery.specs.Recovery.{AreAnswered}
-use Rattle.journal_swap.proofs.Steps.{Comes, IsFound, comes, compacted_by}
+use Rattle.journal_swap.proofs.Steps.{IsFound, comes, compacted_by}
 use Rattle.journal_compaction.specs.Alike.{IsCompactedBy}
 use Rattle.journal_compaction.specs.Changes.{JournalChange, append, compact, appended_entries, journal_after}
 use Rattle.journal_compaction.specs.Compacting.{thinned}

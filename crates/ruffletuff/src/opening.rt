@@ -136,7 +136,7 @@ fn serve_city_as<'a, C: SharedConfigName, R: CommandHost>(
     clear(rt, service.state);
     let Ok(meeting) = Arc::new(
         rt.alloc(),
-        Handoff::new(CompactionSchedule::new(service.thin_at)),
+        Handoff::<FileJournal, AnswersAgree<C>>::new(CompactionSchedule::new(service.thin_at)),
     ) else {
         return Err(ExitCause::NoMemory);
     };

@@ -1,11 +1,9 @@
 use Rattle.std.proofs.Common.{◌≡◌, List, ℕ, [], ◌∷◌, ◌++◌, map, sym, ap, subst, ◌∙◌}
-use Rattle.std.specs.List.{AllByRecursion}
 use Rattle.std.proofs.lemmas.List.{map-append}
 use Rattle.journal_compaction.specs.Changes.{appended_entries, journal_after}
 use Rattle.journal_compaction.specs.Exchanged.{LeadsTo}
 use Rattle.journal_entry.specs.Entries.{Entry, IsEntry, entry_text}
 use Rattle.journal_swap.proofs.Steps.{each_of_both}
-use Rattle.mds_machine.specs.OneHistory.{HasServed}
 use Rattle.server_durable.specs.Journals.{IsJournalOfOneServer}
 use Rattle.server_durable.specs.Logged.{exchanges_in}
 use Rattle.server_durable.proofs.laws.stopped_servers_leave_compacted_journals.Goals as goal
