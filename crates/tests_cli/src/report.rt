@@ -311,9 +311,10 @@ fn count_rows(alloc: Global) -> Option<usize> {
     let zone = Zone::read(NEW_YORK).ok()?;
     let catalogue = Catalogue::with_room(alloc).ok()?;
     let samples = each_minute(alloc, WEEK)?;
-    let operator = operator(b"Scoot", &samples, &catalogue)?;
     let mut rows = Vec::new(alloc);
-    push_verdicts(alloc, &mut rows, &zone, &operator).ok()?;
+    if let Some(operator) = operator(b"Scoot", &samples, &catalogue) {
+        push_verdicts(alloc, &mut rows, &zone, &operator).ok()?;
+    }
     Some(count_lines(&rows))
 }
 
@@ -322,9 +323,10 @@ fn count_days(alloc: Global) -> Option<usize> {
     let zone = Zone::read(NEW_YORK).ok()?;
     let catalogue = Catalogue::with_room(alloc).ok()?;
     let samples = each_minute(alloc, TEN_WEEKS)?;
-    let operator = operator(b"Scoot", &samples, &catalogue)?;
     let mut rows = Vec::new(alloc);
-    push_summary(alloc, &mut rows, &zone, &operator).ok()?;
+    if let Some(operator) = operator(b"Scoot", &samples, &catalogue) {
+        push_summary(alloc, &mut rows, &zone, &operator).ok()?;
+    }
     Some(count_lines(&rows))
 }
 
@@ -333,12 +335,13 @@ fn week_section(alloc: Global) -> Option<Vec<u8>> {
     let zone = Zone::read(NEW_YORK).ok()?;
     let catalogue = Catalogue::with_room(alloc).ok()?;
     let samples = each_minute(alloc, WEEK)?;
-    let operator = operator(b"Scoot", &samples, &catalogue)?;
     let after = WEEK.checked_mul(60_000)?;
     let last = Moment::new(MIDNIGHT.checked_add(after)?)?;
     let span = hours(Moment::new(MIDNIGHT)?, last);
     let mut out = Vec::new(alloc);
-    push_page_operator(alloc, &mut out, &zone, span, &operator).ok()?;
+    if let Some(operator) = operator(b"Scoot", &samples, &catalogue) {
+        push_page_operator(alloc, &mut out, &zone, span, &operator).ok()?;
+    }
     Some(out)
 }
 
