@@ -1,3 +1,4 @@
+pub mod Arrives
 pub mod Busy
 pub mod RequestStage
 pub mod Slots

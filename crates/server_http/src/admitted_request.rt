@@ -1,11 +1,13 @@
 //! A request that may wait: its body is read within its limit and its deadline, then it waits for
 //! its turn, and then it is answered.
-ghost use Rattle.std.specs.Prelude.{◌≡◌, ◌+◌, ◌≤◌, [], None, IfOk, OnOk, IsSome};
+ghost use Rattle.std.specs.Prelude.{◌≡◌, ◌⊎◌, ◌+◌, ◌≤◌, [], None, IfOk, IfSome, OnOk, IsSome};
 ghost use Rattle.futures.specs.Task.{Covers, Keeps};
 ghost use Rattle.futures.specs.Poll.{IfReady, OnPending};
 ghost use Rattle.server_admission.specs.Arrival.{body_in, closes_after};
 ghost use Rattle.server_http.specs.Busy.{SaysBusy};
-ghost use Rattle.server_http.specs.RequestStage.{CanProceed, IsReleased};
+ghost use Rattle.server_http.specs.declared.admitted_request.RequestStage.TheVariants.{Reading};
+ghost use Rattle.server_http.specs.Turn.{IsWaiting};
+ghost use Rattle.server_http.specs.RequestStage.{AnswersOf, CanProceed, GoesOn, IsAnswer, IsReleased, MayBeGiven};
 
 use crate::replies::{busy, close_unless_whole};
 use crate::server_conn::ServerConn;
@@ -59,7 +61,10 @@ impl<P: ServerConn, I: Drop> AdmittedRequest<P, P::Head, P::Reply, I> {
         head: P::Head,
         body: TimedBody<I>,
     ) -> AdmittedRequest<P, P::Head, P::Reply, I>
-        ensures { CanProceed P.Reply.can_poll result.stage }
+        ensures stage { CanProceed P.Reply.can_poll result.stage }
+        ensures reads { result.stage ≡ Reading body }
+        ensures conn { result.conn ≡ conn }
+        ensures head { result.head ≡ head }
     {
         AdmittedRequest {
             conn,
@@ -77,6 +82,8 @@ impl<P: ServerConn, I: Drop> AdmittedRequest<P, P::Head, P::Reply, I> {
     fn read(&mut self, cx: &mut Context<'_>) -> Poll<Result<(), AllocError>>
         requires stage { CanProceed P.Reply.can_poll self.old.stage }
         ensures stage { CanProceed P.Reply.can_poll self.new.stage }
+        ensures goes { IfReady result (λ r. OnOk r (GoesOn P.answers P.Reply.gives self.old self.new)) }
+        ensures same { OnPending result (GoesOn P.answers P.Reply.gives self.old self.new) }
         ensures registered { OnPending result (Covers cx.new (λ _. ⊥)) }
         ensures kept { Keeps cx.old cx.new }
     {
@@ -98,7 +105,9 @@ impl<P: ServerConn, I: Drop> AdmittedRequest<P, P::Head, P::Reply, I> {
     /// The request waits for its turn, at the end of its client's queue. One whose answer takes
     /// nothing of the queue has its turn at once.
     fn queue(&mut self, arrived: Arrived)
-        ensures { CanProceed P.Reply.can_poll self.new.stage }
+        ensures stage { CanProceed P.Reply.can_poll self.new.stage }
+        ensures goes { (response : _) → MayBeGiven P.answers P.Reply.gives self.new response
+            → IsAnswer (AnswersOf P.answers self.old) arrived response }
     {
         let cost = P::cost(&self.head, arrived.bytes().len());
         let turn = match &self.conn {
@@ -112,6 +121,7 @@ impl<P: ServerConn, I: Drop> AdmittedRequest<P, P::Head, P::Reply, I> {
     fn wait_pause(&mut self, cx: &mut Context<'_>) -> Poll<()>
         requires stage { CanProceed P.Reply.can_poll self.old.stage }
         ensures stage { CanProceed P.Reply.can_poll self.new.stage }
+        ensures goes { GoesOn P.answers P.Reply.gives self.old self.new }
         ensures registered { OnPending result (Covers cx.new (λ _. ⊥)) }
         ensures kept { Keeps cx.old cx.new }
     {
@@ -131,22 +141,45 @@ impl<P: ServerConn, I: Drop> AdmittedRequest<P, P::Head, P::Reply, I> {
         requires stage { CanProceed P.Reply.can_poll self.old.stage }
         requires ready { P.may_answer }
         ensures stage { CanProceed P.Reply.can_poll self.new.stage }
+        ensures goes { GoesOn P.answers P.Reply.gives self.old self.new }
         ensures registered { OnPending result (Covers cx.new (λ _. ⊥)) }
         ensures kept { Keeps cx.old cx.new }
     {
-        let RequestStage::Queued(arrived, turn) = &mut self.stage else {
-            return Poll::Ready(Ok(()));
-        };
+        let stage = mem::replace(&mut self.stage, RequestStage::Finished);
+        match stage {
+            RequestStage::Queued(arrived, turn) => self.wait_turn(arrived, turn, cx),
+            other => {
+                self.stage = other;
+                Poll::Ready(Ok(()))
+            }
+        }
+    }
+
+    /// Waits for the turn of a request whose body arrived so, and then asks for its answer.
+    fn wait_turn(
+        &mut self,
+        arrived: Arrived,
+        turn: Option<Turn>,
+        cx: &mut Context<'_>,
+    ) -> Poll<Result<(), Crowded>>
+        requires waits { IfSome turn IsWaiting }
+        requires ready { P.may_answer }
+        ensures stage { CanProceed P.Reply.can_poll self.new.stage }
+        ensures goes { (response : _) → MayBeGiven P.answers P.Reply.gives self.new response
+            → IsAnswer (AnswersOf P.answers self.old) arrived response }
+        ensures registered { OnPending result (Covers cx.new (λ _. ⊥)) }
+        ensures kept { Keeps cx.old cx.new }
+    {
         let Some(turn) = turn else {
+            self.stage = RequestStage::Queued(arrived, None);
             return Poll::Ready(self.start_answer());
         };
-        match turn.poll(cx) {
+        let mut turn = turn;
+        let given = turn.poll(cx);
+        self.stage = RequestStage::Queued(arrived, Some(turn));
+        match given {
             Poll::Pending => Poll::Pending,
-            Poll::Ready(Ok(_permits)) => Poll::Ready(self.start_answer()),
-            Poll::Ready(Err(_)) => {
-                *arrived = Arrived::NoMemory;
-                Poll::Ready(self.start_answer())
-            }
+            Poll::Ready(_permits) => Poll::Ready(self.start_answer()),
         }
     }
 
@@ -160,6 +193,7 @@ impl<P: ServerConn, I: Drop> AdmittedRequest<P, P::Head, P::Reply, I> {
         requires ready { P.may_answer }
         ensures stage { CanProceed P.Reply.can_poll self.new.stage }
         ensures body { OnOk result (IsReleased self.old.stage self.new.stage) }
+        ensures goes { GoesOn P.answers P.Reply.gives self.old self.new }
     {
         let stage = mem::replace(&mut self.stage, RequestStage::Finished);
         let RequestStage::Queued(arrived, _) = stage else {
@@ -185,6 +219,7 @@ impl<P: ServerConn, I: Drop> AdmittedRequest<P, P::Head, P::Reply, I> {
     fn pause(&mut self, cx: &mut Context<'_>) -> Poll<HttpResult>
         ensures says { IfReady result (λ r. IfOk r SaysBusy) }
         ensures stage { OnPending result (CanProceed P.Reply.can_poll self.new.stage) }
+        ensures same { OnPending result (GoesOn P.answers P.Reply.gives self.old self.new) }
         ensures registered { OnPending result (Covers cx.new (λ _. ⊥)) }
         ensures kept { Keeps cx.old cx.new }
     {
@@ -209,6 +244,9 @@ impl<P: ServerConn, I: Drop> AdmittedRequest<P, P::Head, P::Reply, I> {
     fn next_pause(&mut self) -> Option<Sleep>
         ensures spent { MOST_PAUSES ≤ self.old.pauses → result ≡ None }
         ensures counted { IsSome result → self.new.pauses ≡ self.old.pauses + 1 }
+        ensures conn { self.new.conn ≡ self.old.conn }
+        ensures head { self.new.head ≡ self.old.head }
+        ensures stage { self.new.stage ≡ self.old.stage }
     {
         if self.pauses >= MOST_PAUSES {
             return None;
@@ -221,6 +259,8 @@ impl<P: ServerConn, I: Drop> AdmittedRequest<P, P::Head, P::Reply, I> {
     fn poll_reply(&mut self, cx: &mut Context<'_>) -> Poll<HttpResult>
         requires stage { CanProceed P.Reply.can_poll self.old.stage }
         ensures stage { OnPending result (CanProceed P.Reply.can_poll self.new.stage) }
+        ensures gives { IfReady result (λ r. IfOk r (MayBeGiven P.answers P.Reply.gives self.old)) }
+        ensures same { OnPending result (GoesOn P.answers P.Reply.gives self.old self.new) }
         ensures registered { OnPending result (Covers cx.new (λ _. ⊥)) }
         ensures kept { Keeps cx.old cx.new }
     {
@@ -241,6 +281,9 @@ impl<P: ServerConn, I: Drop> AdmittedRequest<P, P::Head, P::Reply, I> {
         requires stage { CanProceed P.Reply.can_poll self.old.stage }
         requires ready { P.may_answer }
         ensures stage { OnPending result (CanProceed P.Reply.can_poll self.new.stage) }
+        ensures gives { IfReady result (λ r. IfOk r
+            (λ response. SaysBusy response ⊎ MayBeGiven P.answers P.Reply.gives self.old response)) }
+        ensures same { OnPending result (GoesOn P.answers P.Reply.gives self.old self.new) }
         ensures registered { OnPending result (Covers cx.new (λ _. ⊥)) }
         ensures kept { Keeps cx.old cx.new }
     {

@@ -1,14 +1,18 @@
 //! Reads a request body.
-ghost use Rattle.std.specs.Prelude.{◌≡◌, ◌≢◌, ◌⊎◌, None, [], IfSome};
-ghost use Rattle.futures.specs.Task.{Keeps};
+ghost use Rattle.std.specs.Prelude.{◌≡◌, ◌≢◌, ◌⊎◌, ◌++◌, None, Some, [], Ok, IfSome, option_map};
+ghost use Rattle.futures.specs.Task.{Covers, Keeps};
+ghost use Rattle.futures.specs.Poll.{IfReady, OnPending};
 ghost use Rattle.server_admission.specs.Arrival.{arrived_of};
 ghost use Rattle.server_admission.specs.declared.arrival.Arrived.TheVariants.{TooLong, NoMemory};
+ghost use Rattle.server_http.specs.Arrives.{ArrivesBy, GoesOn, LeavesArrivals, MayArrive, Precedes};
+ghost use Rattle.server_admission.specs.declared.arrival.BodyEnd.TheVariants as TheEnd;
 ghost use Rattle.server_admission.specs.declared.arrival.BodyEnd.TheVariants.{Over};
 
 use bytes::{Bytes, BytesQueue};
 use futures::task::{Context, Poll};
 use futures::{Future, ready};
 use http_body::{Body, Frame};
+use hyper::Error;
 use hyper::body::Incoming;
 use server_admission::{Arrived, BodyEnd, Piece, load_bytes_of};
 use std::alloc::Global;
@@ -29,7 +33,11 @@ pub struct BodyReader<I> {
 
 impl<I: Drop> BodyReader<I> {
     /// Reads a body of which nothing was read.
-    pub fn new(alloc: Global, body: Incoming<I>) -> BodyReader<I> {
+    pub fn new(alloc: Global, body: Incoming<I>) -> BodyReader<I>
+        ensures body { result.body ≡ body }
+        ensures kept { result.kept ≡ Some [] }
+        ensures length { result.length ≡ 0 }
+    {
         BodyReader {
             body,
             alloc,
@@ -50,7 +58,10 @@ impl<I: Drop> BodyReader<I> {
 
     /// Takes a piece of the body; its end, where nothing more is to be read.
     fn push_frame(&mut self, frame: Frame<Bytes>) -> Option<BodyEnd>
-        ensures { self.new.body ≡ self.old.body }
+        ensures body { self.new.body ≡ self.old.body }
+        ensures next { result ≡ None → Precedes frame self.old self.new }
+        ensures ends { IfSome result (λ end. (end ≢ Over)
+            × ArrivesBy self.old.kept self.old.length [] (Some (Ok frame)) (arrived_of end [])) }
     {
         let Ok(data) = frame.into_data() else {
             return None;
@@ -68,12 +79,46 @@ impl<I: Drop> BodyReader<I> {
     }
 
     /// Stores a piece, unless the body is discarded.
-    fn push_piece(&mut self, data: Bytes) -> Option<BodyEnd>
-        ensures { self.new.body ≡ self.old.body }
+    fn push_piece(&mut self, piece: Bytes) -> Option<BodyEnd>
+        ensures body { self.new.body ≡ self.old.body }
+        ensures length { self.new.length ≡ self.old.length }
+        ensures kept { result ≡ None → self.new.kept ≡ option_map (λ first. first ++ piece) self.old.kept }
+        ensures ends { IfSome result (λ end. end ≡ TheEnd.NoMemory) }
     {
-        match self.kept.as_mut()?.push(data) {
+        match self.kept.as_mut()?.push(piece) {
             Ok(()) => None,
             Err(_) => Some(BodyEnd::NoMemory),
+        }
+    }
+
+    /// Takes what comes next of the body. The body as it arrived, where nothing more is to be read.
+    fn push_next(&mut self, next: Option<Result<Frame<Bytes>, Error>>) -> Option<Arrived>
+        ensures body { self.new.body ≡ self.old.body }
+        ensures arrived { IfSome result (ArrivesBy self.old.kept self.old.length [] next) }
+        ensures goes { result ≡ None → GoesOn next self.old self.new }
+    {
+        let end = match next {
+            None => Some(BodyEnd::Over),
+            Some(Err(error)) => Some(end_of(&error)),
+            Some(Ok(frame)) => self.push_frame(frame),
+        };
+        match end {
+            Some(end) => Some(self.arrival(end)),
+            None => None,
+        }
+    }
+
+    /// Reads what comes next of the body. The body as it arrived, where nothing more is to be read.
+    fn poll_piece(&mut self, cx: &mut Context<'_>) -> Poll<Option<Arrived>>
+        ensures arrived { IfReady result (λ o. IfSome o (MayArrive self.old)) }
+        ensures goes { IfReady result (λ o. o ≡ None → LeavesArrivals self.old self.new) }
+        ensures same { OnPending result (LeavesArrivals self.old self.new) }
+        ensures registered { OnPending result (Covers cx.new (λ _. ⊥)) }
+        ensures kept { Keeps cx.old cx.new }
+    {
+        match self.body.poll_frame(cx) {
+            Poll::Pending => Poll::Pending,
+            Poll::Ready(next) => Poll::Ready(self.push_next(next)),
         }
     }
 
@@ -85,6 +130,7 @@ impl<I: Drop> BodyReader<I> {
             (λ kept. (result ≡ arrived_of Over kept) ⊎ (result ≡ NoMemory)) }
         ensures passed { end ≡ Over → self.old.kept ≡ None → result ≡ TooLong }
         ensures unfinished { end ≢ Over → result ≡ arrived_of end [] }
+        ensures same { self.new.body ≡ self.old.body }
     {
         if end != BodyEnd::Over {
             return Arrived::of(end, Bytes::new());
@@ -108,7 +154,9 @@ fn join(alloc: Global, mut pieces: BytesQueue) -> Option<Bytes>
 }
 
 /// How the reading of a body ends with this error.
-fn end_of(error: &hyper::Error) -> BodyEnd {
+fn end_of(error: &Error) -> BodyEnd
+    ensures { (result ≡ TheEnd.NoMemory) ⊎ (result ≡ TheEnd.Broken) }
+{
     if error.is_out_of_memory() {
         BodyEnd::NoMemory
     } else {
@@ -119,15 +167,12 @@ fn end_of(error: &hyper::Error) -> BodyEnd {
 impl<I: Drop> Future for BodyReader<I> {
     type Output = Arrived;
 
+    ghost gives = { MayArrive };
+
     fn poll(&mut self, cx: &mut Context<'_>) -> Poll<Arrived> {
         for _ in 0..PIECES {
-            let end = match ready!(self.body.poll_frame(cx)) {
-                None => Some(BodyEnd::Over),
-                Some(Err(error)) => Some(end_of(&error)),
-                Some(Ok(frame)) => self.push_frame(frame),
-            };
-            if let Some(end) = end {
-                return Poll::Ready(self.arrival(end));
+            if let Some(arrived) = ready!(self.poll_piece(cx)) {
+                return Poll::Ready(arrived);
             }
         }
         cx.yield_now()

@@ -1,5 +1,5 @@
 //! The handles of a server's connections, and that of its acceptor.
-ghost use Rattle.std.specs.Prelude.{IfOk};
+ghost use Rattle.std.specs.Prelude.{◌≡◌, Ok, IfOk};
 
 use crate::keepalive::ReactorNudge;
 use crate::server_conn::ServerConn;
@@ -49,6 +49,10 @@ impl<A: RequestService, C: Clock + Wait + Drop> ServerConn for ConnHandle<A, C> 
 
     ghost may_answer = { A.may_answer };
 
+    ghost resolves = { λ conn. A.resolves conn.context.value.answers };
+
+    ghost answers = { λ conn. A.answers conn.context.value.answers };
+
     fn open_conn(&self) -> Option<ConnHandle<A, C>> {
         let alloc = self.context.alloc;
         let slot = Arc::new(alloc, ConnSlot::new(alloc).ok()?).ok()?;
@@ -64,7 +68,9 @@ impl<A: RequestService, C: Clock + Wait + Drop> ServerConn for ConnHandle<A, C> 
         })
     }
 
-    fn clone_handle(&self) -> Result<ConnHandle<A, C>, AllocError> {
+    fn clone_handle(&self) -> Result<ConnHandle<A, C>, AllocError>
+        ensures { IfOk result (λ handle. handle.context ≡ self.now.context) }
+    {
         Ok(ConnHandle {
             context: Arc::try_clone(&self.context)?,
             slot: Arc::try_clone(&self.slot)?,
@@ -151,7 +157,9 @@ impl<A: RequestService, C: Clock + Wait + Drop> ServerConn for ConnHandle<A, C> 
 
     fn answer(&self, head: &A::Head, body: &Arrived) -> Result<A::Reply, Crowded>
         requires { A.may_answer }
-        ensures { IfOk result A.Reply.can_poll }
+        ensures poll { IfOk result A.Reply.can_poll }
+        ensures says { IfOk result (λ reply. (response : _) → A.Reply.gives reply (Ok response)
+            → A.answers self.now.context.value.answers head.now body.now response) }
     {
         if A::cost(head, body.bytes().len()) == Cost::Exclusive {
             self.nudge.nudge();

@@ -1,10 +1,9 @@
 //! The future of a request, from its head to its response.
-ghost use Rattle.std.specs.Prelude.{⊤, IfOk};
+ghost use Rattle.std.specs.Prelude.{◌⊎◌, IfOk};
 ghost use Rattle.futures.specs.Task.{Covers, Keeps};
 ghost use Rattle.futures.specs.Poll.{IfReady, OnPending};
 ghost use Rattle.server_http.specs.Busy.{SaysBusy};
-ghost use Rattle.server_http.specs.RequestStage.{CanPoll};
-ghost use Rattle.server_http.specs.declared.request_future.RequestFuture.TheVariants.{Admitted, Refused};
+ghost use Rattle.server_http.specs.RequestStage.{Answers, CanPoll, FutureGives};
 
 use crate::admitted_request::AdmittedRequest;
 use crate::body_reader::BodyReader;
@@ -40,7 +39,9 @@ pub struct RefusedRequest<P, I> {
 impl<P: ServerConn, I: Drop> RequestFuture<P, P::Head, P::Reply, I> {
     /// The future of a request whose head has come.
     pub fn new(conn: &P, parts: Parts, body: Incoming<I>) -> RequestFuture<P, P::Head, P::Reply, I>
-        ensures { CanPoll P.Reply.can_poll result }
+        ensures poll { CanPoll P.Reply.can_poll result }
+        ensures answers { (given : _) → FutureGives P.answers P.Reply.gives result given
+            → IfOk given (λ response. SaysBusy response ⊎ Answers P.resolves P.answers conn.now parts body response) }
     {
         let mut body = BodyReader::new(conn.alloc(), body);
         let head = conn.resolve(parts);
@@ -83,10 +84,7 @@ impl<P: ServerConn, I: Drop> Future for RequestFuture<P, P::Head, P::Reply, I> {
 
     ghost can_poll = { λ request. CanPoll P.Reply.can_poll request × P.may_answer };
 
-    ghost gives = { elim [
-      | Admitted _ ↦ λ _. ⊤
-      | Refused _ ↦ λ given. IfOk given SaysBusy
-    ] };
+    ghost gives = { FutureGives P.answers P.Reply.gives };
 
     fn poll(&mut self, cx: &mut Context<'_>) -> Poll<HttpResult> {
         match self {

@@ -16,7 +16,11 @@ use tokio::time::Sleep;
 /// connection have it as a parameter: the proof of the code that serves them covers all that stands
 /// in a type, and so nothing of what is shared.
 pub trait ServerConn: Drop {
-    ghost use Rattle.std.specs.Prelude.{◌≡◌, ⊤, None, IfOk, IfSome};
+    ghost use Rattle.std.specs.Prelude.{◌≡◌, ⊤, ℕ, List, None, Ok, IfOk, IfSome};
+    ghost use Rattle.http.specs.declared.request.Parts.{Parts};
+    ghost use Rattle.http.specs.declared.response.Response.{Response};
+    ghost use Rattle.http_body_util.specs.declared.full.Full.{Full};
+    ghost use Rattle.server_admission.specs.declared.arrival.Arrived.{Arrived};
     ghost use Rattle.server_admission.specs.declared.cost.Cost.TheVariants.{Free};
     ghost use Rattle.server_http.specs.Turn.{IsWaiting};
 
@@ -30,6 +34,12 @@ pub trait ServerConn: Drop {
     /// The condition for answering.
     ghost may_answer: { Type 0 } = { ⊤ };
 
+    /// The heads that a head which came may be resolved to.
+    ghost resolves: { Self → Parts → Self.Head → Type 0 };
+
+    /// The responses to a head and the body that arrived for it.
+    ghost answers: { Self → Self.Head → Arrived → Response (Full (List ℕ)) → Type 0 };
+
     /// A handle for a new connection, which is anonymous at first; none, where there is no slot for
     /// it.
     fn open_conn(&self) -> Option<Self>;
@@ -39,7 +49,9 @@ pub trait ServerConn: Drop {
     /// # Errors
     ///
     /// There are too many references.
-    fn clone_handle(&self) -> Result<Self, AllocError>;
+    fn clone_handle(&self) -> Result<Self, AllocError>
+        ensures { IfOk result (λ handle. (head : _) (body : _) (response : _)
+            → answers handle head body response → answers self.now head body response) };
 
     /// The allocator.
     fn alloc(&self) -> Global;
@@ -79,7 +91,8 @@ pub trait ServerConn: Drop {
     fn shutdown_notice(&self) -> Result<OwnedNotified, AllocError>;
 
     /// Resolves a head that has come: once, before its body is read.
-    fn resolve(&self, parts: Parts) -> Self::Head;
+    fn resolve(&self, parts: Parts) -> Self::Head
+        ensures { resolves self.now parts result };
 
     /// The client of a request.
     fn actor(head: &Self::Head) -> Actor;
@@ -105,7 +118,9 @@ pub trait ServerConn: Drop {
     /// The client's share is used up: nothing was asked.
     fn answer(&self, head: &Self::Head, body: &Arrived) -> Result<Self::Reply, Crowded>
         requires ready { may_answer }
-        ensures { IfOk result Self.Reply.can_poll };
+        ensures poll { IfOk result Self.Reply.can_poll }
+        ensures says { IfOk result (λ reply. (response : _)
+            → Self.Reply.gives reply (Ok response) → answers self.now head.now body.now response) };
 
     /// The request waits no more: its response is made, and it is taken off its client's load.
     fn finish_request(&self);

@@ -16,7 +16,11 @@ pub struct Crowded;
 
 /// A service: resolves the heads of requests, and answers them once their bodies have arrived.
 pub trait RequestService: Drop {
-    ghost use Rattle.std.specs.Prelude.{⊤, IfOk};
+    ghost use Rattle.std.specs.Prelude.{⊤, ℕ, List, Ok, IfOk};
+    ghost use Rattle.http.specs.declared.request.Parts.{Parts};
+    ghost use Rattle.http.specs.declared.response.Response.{Response};
+    ghost use Rattle.http_body_util.specs.declared.full.Full.{Full};
+    ghost use Rattle.server_admission.specs.declared.arrival.Arrived.{Arrived};
 
     /// A head with what it was resolved to: which client asks, and for what.
     type Head: Drop;
@@ -24,8 +28,15 @@ pub trait RequestService: Drop {
     /// The condition for answering: nothing, or that the service may be shared by threads.
     ghost may_answer: { Type 0 } = { ⊤ };
 
+    /// The heads that a head which came may be resolved to.
+    ghost resolves: { Self → Parts → Self.Head → Type 0 } = { λ _ _ _. ⊤ };
+
+    /// The responses to a head and the body that arrived for it.
+    ghost answers: { Self → Self.Head → Arrived → Response (Full (List ℕ)) → Type 0 } = { λ _ _ _ _. ⊤ };
+
     /// Resolves a head: once, before its body is read.
-    fn resolve(&self, parts: Parts) -> Self::Head;
+    fn resolve(&self, parts: Parts) -> Self::Head
+        ensures { resolves self.now parts result };
 
     /// The client of a request.
     fn actor(head: &Self::Head) -> Actor;
@@ -43,7 +54,9 @@ pub trait RequestService: Drop {
     /// The client's share is used up: nothing was asked.
     fn answer(&self, head: &Self::Head, body: &Arrived) -> Result<Self::Reply, Crowded>
         requires ready { may_answer }
-        ensures { IfOk result Self.Reply.can_poll };
+        ensures poll { IfOk result Self.Reply.can_poll }
+        ensures says { IfOk result (λ reply. (response : _)
+            → Self.Reply.gives reply (Ok response) → answers self.now head.now body.now response) };
 }
 
 /// A service that several threads share.

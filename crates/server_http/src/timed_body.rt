@@ -1,6 +1,8 @@
 //! A body that is read, with the deadline of its arrival.
+ghost use Rattle.std.specs.Prelude.{◌≡◌, IfSome};
 ghost use Rattle.futures.specs.Task.{Covers, Keeps};
-ghost use Rattle.futures.specs.Poll.{OnPending};
+ghost use Rattle.futures.specs.Poll.{IfReady, OnPending};
+ghost use Rattle.server_http.specs.Arrives.{MayArrive};
 
 use crate::body_reader::BodyReader;
 use crate::server_conn::ServerConn;
@@ -19,7 +21,9 @@ pub struct TimedBody<I> {
 
 impl<I: Drop> TimedBody<I> {
     /// A body that hasn't been waited for.
-    pub fn new(body: BodyReader<I>) -> TimedBody<I> {
+    pub fn new(body: BodyReader<I>) -> TimedBody<I>
+        ensures { result.body ≡ body }
+    {
         TimedBody {
             body,
             deadline: None,
@@ -33,6 +37,8 @@ impl<I: Drop> TimedBody<I> {
         seconds: u64,
         cx: &mut Context<'_>,
     ) -> Poll<Option<Arrived>>
+        ensures arrived { IfReady result (λ o. IfSome o (MayArrive self.old.body)) }
+        ensures same { OnPending result ((arrived : _) → MayArrive self.new.body arrived → MayArrive self.old.body arrived) }
         ensures registered { OnPending result (Covers cx.new (λ _. ⊥)) }
         ensures kept { Keeps cx.old cx.new }
     {
@@ -45,6 +51,7 @@ impl<I: Drop> TimedBody<I> {
 
     /// Whether so many seconds are over since this was first asked.
     fn is_late<P: ServerConn>(&mut self, conn: &P, seconds: u64, cx: &mut Context<'_>) -> bool
+        ensures same { self.new.body ≡ self.old.body }
         ensures kept { Keeps cx.old cx.new }
     {
         if self.deadline.is_none() {
