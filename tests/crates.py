@@ -29,7 +29,7 @@ LAYERS = (
         journal_entry journal_commit journal_recovery journal_folder journal_samples journal_compaction"""),
     ("Server", "`server_`: from a socket to the core", """
         server_admission server_responses server_app server_state server_public server_http server_start server_settings server_page
-        server_routes server_control server_durable server_past server_journal server_site"""),
+        server_routes server_control server_durable server_past server_journal server_standby server_site"""),
     ("Command line", "`cli_`: what a shell asks for", """
         cli_host cli_args cli_timezone cli_config cli_calendar cli_client cli_documents cli_report cli_vehicles cli_transfer
         cli_log cli_journal cli_report_command"""),
