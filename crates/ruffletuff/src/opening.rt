@@ -35,6 +35,7 @@ use server_start::workers;
 use server_state::{Hall, HallName, SharedHallName, TurnLists};
 use std::alloc::{AllocGlobal, Global};
 use std::fs::File;
+use std::io::Print;
 use std::marker::Brand;
 use std::sync::{Arc, Wait};
 use std::thread::{Threads, available_parallelism};
@@ -414,6 +415,16 @@ where
         counters,
     )?;
     let hall = Hall::<K>::of(rt, rt.alloc(), room, desks, lists)?;
-    let _end = persist_and_serve::<K, N, L, S, R>(rt, hall, history, log, space, stage)?;
+    let folder = stage.folder;
+    let end = persist_and_serve::<K, N, L, S, R>(rt, hall, history, log, space, stage)?;
+    if end.is_none() {
+        warn_not_compared(rt, folder);
+    }
     Ok(())
+}
+
+/// Warns that the journal wasn't compared with what was answered, as where a connection outlasts the server.
+fn warn_not_compared<R: Print>(rt: &R, folder: &str) {
+    let message = ExitCause::NotWhole.message();
+    let _ = eprintln!(rt; "{message}: {folder}");
 }
