@@ -69,7 +69,7 @@ impl<A: RequestService, C: Clock + Wait + Drop> ServerConn for ConnHandle<A, C> 
     }
 
     fn clone_handle(&self) -> Result<ConnHandle<A, C>, AllocError>
-        ensures { IfOk result (λ handle. handle.context ≡ self.now.context) }
+        ensures { IfOk result (λ handle. handle.context.value ≡ self.now.context.value) }
     {
         Ok(ConnHandle {
             context: Arc::try_clone(&self.context)?,
