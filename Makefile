@@ -118,6 +118,7 @@ stress: build plain
 
 cluster: server
 	python3 -B tests/cluster.py $(SERVER)
+	python3 -B tests/owners.py $(SERVER)
 
 openapi:
 	@GATE=1 python3 -B tests/openapi.py

@@ -432,7 +432,7 @@ MEMBERS = "author operators id limit token"
 OWN = "zone name oversight page title view tiles attribution public none verdicts vehicles America/New_York"
 OPTIONS = (
     "--config --state --listen --control --control-host --drop --thin-at --archive --until --operator --from --to --every --out "
-    "--token-file --token --dry-run --help --version --log --city --log-user unix:PATH"
+    "--token-file --token --dry-run --help --version --log --city --log-user --patience unix:PATH"
 )
 
 

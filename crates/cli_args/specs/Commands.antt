@@ -1,8 +1,8 @@
 -- What the arguments behind the program's name ask for.
 use Rattle.std.specs.Prelude.{ℕ, Bool, true, false, not, ◌&&◌, ◌||◌, List, [], ◌∷◌, bytes_eq, codes, option_map, unwrap_or, if◌then◌else◌, Option, Some, None}
 use Rattle.uuid.specs.Text.{parsed}
-use Rattle.cli_args.specs.Options.{value_of, are_options, moment_in, count_in}
-use Rattle.cli_args.specs.Logs.{Log, log_of, log_place_in, log_view}
+use Rattle.cli_args.specs.Options.{value_of, are_options, moment_in, count_in, read_if}
+use Rattle.cli_args.specs.Logs.{Log, Home, in_folder, in_cluster, home_in, home_view, log_of, log_place_in, log_view}
 use Rattle.cli_args.specs.Logs.{status as status_at}
 use Rattle.cli_args.specs.Transfers.{Job, errand_of, errand_view}
 use Rattle.cli_args.specs.Reports.{Report, report_of, report_view}
@@ -14,8 +14,8 @@ use Rattle.cli_args.specs.declared.command.CliCommand.TheVariants.{Help, Version
 pub data Request : Type 0 where
   help : Request
   version : Request
-  serve : (config state listen : List ℕ) → (control control_host dropped : Option (List ℕ)) → (thin_at : ℕ)
-      → (archive : Option (List ℕ)) → Request
+  serve : (config : List ℕ) → (home : Home) → (listen : List ℕ) → (control control_host dropped : Option (List ℕ))
+      → (thin_at : ℕ) → (archive : Option (List ℕ)) → Request
   check : (folder : List ℕ) → Request
   check_config : (config : List ℕ) → Request
   audit : (folder config : List ℕ) → (until : Option ℕ) → (operator : Option (List ℕ)) → Request
@@ -25,33 +25,34 @@ pub data Request : Type 0 where
   errand : Job → Request
   log : Log → Request
 
--- a value that may be left out: `Some None` without it, `None` where it can't be read
-abbrev pub read_if : {A : Type 0} → (List ℕ → Option A) → Option (List ℕ) → Option (Option A)
-read_if read None = Some None
-read_if read (Some word) = option_map Some (read word)
-
 abbrev pub serving_options : List (List ℕ)
 serving_options = codes "--config" ∷ codes "--state" ∷ codes "--listen" ∷ codes "--control" ∷ codes "--control-host" ∷ codes "--drop" ∷ codes "--thin-at"
-    ∷ codes "--archive" ∷ []
+    ∷ codes "--archive" ∷ codes "--log" ∷ codes "--city" ∷ codes "--log-user" ∷ codes "--patience" ∷ []
 
 -- the control port has a further name only where there is a control port
 abbrev pub is_control : (control control_host : Option (List ℕ)) → Bool
 is_control None (Some host) = false
 is_control control control_host = true
 
--- to serve, where these three are given; without `--thin-at` its default holds
-abbrev pub serve_with : (config state listen control control_host : Option (List ℕ)) → (dropped : Option (Option (List ℕ)))
-    → (thin_at : Option (Option ℕ)) → (archive : Option (List ℕ)) → Option Request
-serve_with (Some config) (Some state) (Some listen) control control_host (Some dropped) (Some thin_at) archive =
-    if is_control control control_host
-    then Some (serve config state listen control control_host dropped (unwrap_or thin_at THIN_AT) archive)
-    else None
-serve_with config state listen control control_host dropped thin_at archive = None
+-- a journal in etcd isn't compacted, nor archived
+abbrev pub is_kept_at : Home → Option ℕ → Option (List ℕ) → Bool
+is_kept_at (in_folder folder) thin_at archive = true
+is_kept_at (in_cluster place patience) None None = true
+is_kept_at (in_cluster place patience) thin_at archive = false
 
-abbrev pub asked_to_serve : List (List ℕ) → Option Request
+-- to serve, where these three are given; without `--thin-at` its default holds
+abbrev pub serve_with : (config : Option (List ℕ)) → Option Home → (listen control control_host : Option (List ℕ))
+    → (dropped : Option (Option (List ℕ))) → (thin_at : Option (Option ℕ)) → (archive : Option (List ℕ)) → Option Request
+serve_with (Some config) (Some home) (Some listen) control control_host (Some dropped) (Some thin_at) archive =
+    if is_control control control_host && is_kept_at home thin_at archive
+    then Some (serve config home listen control control_host dropped (unwrap_or thin_at THIN_AT) archive)
+    else None
+serve_with config home listen control control_host dropped thin_at archive = None
+
+unfoldable pub asked_to_serve : List (List ℕ) → Option Request
 asked_to_serve words =
     if are_options serving_options words
-    then serve_with (value_of (codes "--config") words) (value_of (codes "--state") words) (value_of (codes "--listen") words)
+    then serve_with (value_of (codes "--config") words) (home_in words) (value_of (codes "--listen") words)
     (value_of (codes "--control") words) (value_of (codes "--control-host") words)
     (read_if parsed (value_of (codes "--drop") words)) (read_if count_in (value_of (codes "--thin-at") words))
     (value_of (codes "--archive") words)
@@ -149,7 +150,7 @@ abbrev pub asked_view : CliCommand → Request
 asked_view Help = help
 asked_view Version = version
 asked_view (Serve s) =
-    serve s.config.now s.state.now s.listen.now (option_map (λ word. word.now) s.control)
+    serve s.config.now (home_view s.home) s.listen.now (option_map (λ word. word.now) s.control)
     (option_map (λ word. word.now) s.control_host) s.dropped s.thin_at (option_map (λ word. word.now) s.archive)
 asked_view (Check folder) = check folder.now
 asked_view (CheckConfig config) = check_config config.now

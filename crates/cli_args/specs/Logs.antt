@@ -1,7 +1,10 @@
 -- What `status`, `fetch` and `seed` ask for.
-use Rattle.std.specs.Prelude.{ℕ, List, [], ◌∷◌, bytes_eq, codes, option_map, if◌then◌else◌, Option, Some, None}
-use Rattle.cli_args.specs.Options.{value_of, are_options}
+use Rattle.std.specs.Prelude.{ℕ, List, [], ◌∷◌, bytes_eq, codes, option_map, unwrap_or, if◌then◌else◌, Option, Some, None}
+use Rattle.cli_args.specs.Options.{value_of, are_options, count_in, read_if}
 use Rattle.cli_args.specs.declared.logs.LogPlace.{LogPlace}
+use Rattle.cli_args.specs.declared.logs.CityHome.{CityHome}
+use Rattle.cli_args.specs.declared.logs.CityHome.TheVariants.{Folder, Cluster}
+use Rattle.cli_args.specs.declared.logs.TheConstants.{PATIENCE}
 use Rattle.cli_args.specs.declared.logs.LogCommand.{LogCommand}
 use Rattle.cli_args.specs.declared.logs.LogCommand.TheVariants.{Status, Fetch, Seed}
 
@@ -17,6 +20,11 @@ pub data Log : Type 0 where
   fetch : (folder : List ℕ) → (place : Place) → Log
   seed : (folder : List ℕ) → (place : Place) → Log
 
+-- where a city's journal stands: in its folder, or in etcd, where a standby waits for so many seconds
+pub data Home : Type 0 where
+  in_folder : (folder : List ℕ) → Home
+  in_cluster : (place : Place) → (patience : ℕ) → Home
+
 -- where cluster and city are given
 abbrev pub log_place_with : (cluster city user : Option (List ℕ)) → Option Place
 log_place_with (Some cluster) (Some city) user = Some (record { cluster = cluster; city = city; user = user })
@@ -29,6 +37,23 @@ log_place_in words =
     then log_place_with (value_of (codes "--log") words) (value_of (codes "--city") words)
     (value_of (codes "--log-user") words)
     else None
+
+-- a folder, or a place in a cluster; without `--patience` its default holds
+abbrev pub home_with : (state cluster city user : Option (List ℕ)) → (patience : Option ℕ) → Option Home
+home_with (Some state) None None None None = Some (in_folder state)
+home_with None (Some cluster) (Some city) user patience =
+    Some (in_cluster (record { cluster = cluster; city = city; user = user }) (unwrap_or patience PATIENCE))
+home_with state cluster city user patience = None
+
+abbrev pub home_for : (state cluster city user : Option (List ℕ)) → (patience : Option (Option ℕ)) → Option Home
+home_for state cluster city user None = None
+home_for state cluster city user (Some patience) = home_with state cluster city user patience
+
+-- where a city's journal stands by options
+unfoldable pub home_in : List (List ℕ) → Option Home
+home_in words =
+    home_for (value_of (codes "--state") words) (value_of (codes "--log") words) (value_of (codes "--city") words)
+    (value_of (codes "--log-user") words) (read_if count_in (value_of (codes "--patience") words))
 
 -- what a verb asks for, with a folder and options
 abbrev pub log_of : List ℕ → List ℕ → List (List ℕ) → Option Log
@@ -43,3 +68,7 @@ abbrev pub log_view : LogCommand → Log
 log_view (Status p) = status (log_place_view p)
 log_view (Fetch folder p) = fetch folder.now (log_place_view p)
 log_view (Seed folder p) = seed folder.now (log_place_view p)
+
+abbrev pub home_view : CityHome → Home
+home_view (Folder folder) = in_folder folder.now
+home_view (Cluster place patience) = in_cluster (log_place_view place) patience

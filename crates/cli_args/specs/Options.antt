@@ -1,5 +1,5 @@
 -- Options among a program's arguments: each is a name, with a value behind it.
-use Rattle.std.specs.Prelude.{ℕ, ◌+◌, ◌-◌, ◌*◌, ◌&&◌, ◌==◌, fold, Bool, true, false, not, List, [], ◌∷◌, length, bytes_eq, nat_le, is_some, if◌then◌else◌, Option, Some, None}
+use Rattle.std.specs.Prelude.{ℕ, ◌+◌, ◌-◌, ◌*◌, ◌&&◌, ◌==◌, fold, Bool, true, false, not, List, [], ◌∷◌, length, bytes_eq, nat_le, is_some, if◌then◌else◌, option_map, Option, Some, None}
 use Rattle.std.specs.List.{list_all, list_any}
 use Rattle.std.specs.Char.{is_ascii_digit}
 use Rattle.mds_text.specs.Fields.{last_moment}
@@ -49,3 +49,8 @@ count_in word = if is_count word then Some (decimal word) else None
 
 abbrev pub moment_in : List ℕ → Option ℕ
 moment_in word = if is_moment word then Some (decimal word) else None
+
+-- a value that may be left out: `Some None` without it, `None` where it can't be read
+abbrev pub read_if : {A : Type 0} → (List ℕ → Option A) → Option (List ℕ) → Option (Option A)
+read_if read None = Some None
+read_if read (Some word) = option_map Some (read word)

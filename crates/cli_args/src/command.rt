@@ -1,11 +1,12 @@
 //! What the program's arguments ask for.
 ghost use Rattle.std.specs.Prelude.{◌≡◌, ◌∷◌, map, string_bytes, option_map};
 ghost use Rattle.uuid.specs.Text.{parsed};
-ghost use Rattle.cli_args.specs.Options.{moment_in, count_in};
-ghost use Rattle.cli_args.specs.Commands.{read_if, asked_to_serve, asked_to_audit, asked_to_thin, asked_to_check, asked_to_report, asked_alone, asked_with, asked_of, asked_elsewhere, asked_behind, asked_errand, asked_log, asked_status, asked_by, asked_view};
+ghost use Rattle.cli_args.specs.Options.{moment_in, count_in, read_if};
+ghost use Rattle.cli_args.specs.Logs.{home_view};
+ghost use Rattle.cli_args.specs.Commands.{is_kept_at, asked_to_serve, asked_to_audit, asked_to_thin, asked_to_check, asked_to_report, asked_alone, asked_with, asked_of, asked_elsewhere, asked_behind, asked_errand, asked_log, asked_status, asked_by, asked_view};
 
-use crate::logs::{LogCommand, log_of, status_of};
-use crate::moment::{count_of, moment_of};
+use crate::logs::{CityHome, LogCommand, home_in, log_of, status_of};
+use crate::moment::{count_if, moment_of};
 use crate::options::{are_options, value_of};
 use crate::report::ReportOptions;
 use crate::report_words::report_of;
@@ -26,8 +27,8 @@ const ARCHIVE: &str = "--archive";
 pub struct ServeOptions<'a> {
     /// The configuration's file.
     pub config: &'a str,
-    /// The city's folder.
-    pub state: &'a str,
+    /// Where the city's journal stands.
+    pub home: CityHome<'a>,
     /// The address to listen at.
     pub listen: &'a str,
     /// The address of the control port; `None` for no control port.
@@ -119,20 +120,18 @@ fn moment_if(word: Option<&str>) -> Option<Option<Moment>>
     }
 }
 
-/// Reads a value that may be left out as a count: `Some(None)` without a value, `None` where it is no count.
-fn count_if(word: Option<&str>) -> Option<Option<u64>>
-    ensures { result ≡ read_if count_in (option_map (λ word. word.now) word.entry) }
+/// Whether options may stand beside where a journal stands: one in etcd isn't compacted, nor archived.
+fn is_kept_at(home: &CityHome<'_>, thin_at: Option<u64>, archive: Option<&str>) -> bool
+    ensures { result ≡ is_kept_at (home_view home.now) thin_at (option_map (λ word. word.now) archive.entry) }
 {
-    match word {
-        None => Some(None),
-        Some(word) => match count_of(word) {
-            Some(count) => Some(Some(count)),
-            None => None,
-        },
+    match home {
+        CityHome::Folder(_) => true,
+        CityHome::Cluster(_, _) => thin_at.is_none() && archive.is_none(),
     }
 }
 
 /// What `serve` asks for, with options in any order; `None` where they are wrong.
+#[tactic(auto, unfolding(crate::specs::Commands::asked_to_serve))]
 fn serve_command(words: &[String]) -> Option<CliCommand<'_>>
     ensures { option_map asked_view result ≡ asked_to_serve (map string_bytes words.now) }
 {
@@ -145,29 +144,37 @@ fn serve_command(words: &[String]) -> Option<CliCommand<'_>>
         "--drop",
         "--thin-at",
         ARCHIVE,
+        "--log",
+        "--city",
+        "--log-user",
+        "--patience",
     ];
     if !are_options(names, words) {
         return None;
     }
     let config = value_of(CONFIG, words)?;
-    let state = value_of("--state", words)?;
+    let home = home_in(words)?;
     let listen = value_of("--listen", words)?;
     let control = value_of("--control", words);
     let control_host = value_of("--control-host", words);
+    let archive = value_of(ARCHIVE, words);
     if control_host.is_some() && control.is_none() {
         return None;
     }
     let dropped = id_if(value_of("--drop", words))?;
-    let thin_at = count_if(value_of("--thin-at", words))?.unwrap_or(THIN_AT);
+    let thin_at = count_if(value_of("--thin-at", words))?;
+    if !is_kept_at(&home, thin_at, archive) {
+        return None;
+    }
     Some(CliCommand::Serve(ServeOptions {
         config,
-        state,
+        home,
         listen,
         control,
         control_host,
         dropped,
-        thin_at,
-        archive: value_of(ARCHIVE, words),
+        thin_at: thin_at.unwrap_or(THIN_AT),
+        archive,
     }))
 }
 

@@ -15,7 +15,7 @@ mod version;
 
 pub use command::{AuditOptions, CliCommand, ServeOptions, ThinOptions, parse_command};
 pub use commit::COMMIT;
-pub use logs::{LogCommand, LogPlace};
+pub use logs::{CityHome, LogCommand, LogPlace, PATIENCE};
 pub use moment::moment_of;
 pub use report::ReportOptions;
 pub use text::{HELP, VERSION};

@@ -1,6 +1,6 @@
 //! Moments and counts among the arguments.
-ghost use Rattle.std.specs.Prelude.{◌≡◌, ◌≤◌, ◌<◌, ◌^◌, length, Some, None, if◌then◌else◌, IfSome};
-ghost use Rattle.cli_args.specs.Options.{are_digits, decimal, moment_in, count_in};
+ghost use Rattle.std.specs.Prelude.{◌≡◌, ◌≤◌, ◌<◌, ◌^◌, length, Some, None, if◌then◌else◌, option_map, IfSome};
+ghost use Rattle.cli_args.specs.Options.{are_digits, decimal, moment_in, count_in, read_if};
 
 use mds_text::Moment;
 
@@ -44,4 +44,17 @@ fn number_of(digits: &[u8]) -> Option<u64>
         number = 10 * number + u64::from(*digit - b'0');
     }
     Some(number)
+}
+
+/// Reads a value that may be left out as a count: `Some(None)` without a value, `None` where it is no count.
+pub(crate) fn count_if(word: Option<&str>) -> Option<Option<u64>>
+    ensures { result ≡ read_if count_in (option_map (λ word. word.now) word.entry) }
+{
+    match word {
+        None => Some(None),
+        Some(word) => match count_of(word) {
+            Some(count) => Some(Some(count)),
+            None => None,
+        },
+    }
 }

@@ -9,6 +9,11 @@ ruffletuff serve --config FILE --state DIR --listen ADDRESS
                  [--control ADDRESS [--control-host NAME]] [--drop ID]
                  [--thin-at BYTES] [--archive DIR]
     serves one city over HTTP
+ruffletuff serve --config FILE --log CLUSTER --city NAME --listen ADDRESS
+                 [--log-user PATH] [--patience SECONDS]
+                 [--control ADDRESS [--control-host NAME]] [--drop ID]
+    the same, with the journal in etcd: it waits as a standby while another
+    process serves the city
 ruffletuff check DIR
     says how many records and bytes a folder's journal has, and how it ends
 ruffletuff check --config FILE
@@ -88,6 +93,8 @@ PATH     behind --log-user a file with a user of etcd, as name:password; else
          each user of the machine sees while the program runs
 MOMENT   in milliseconds of the Unix epoch: the requests before the first later
          one are printed
+SECONDS  for how long an owner shows nothing before a standby serves its city: 5
+         where it isn't said
 BYTES    how many the journal has before it is thinned while the city is served,
          and then three times what it was thinned to and so many more: 67108864
          where it isn't said, 0 for never
@@ -113,7 +120,8 @@ Exit status: 0 done
                written, or it isn't known whether etcd has what was put there
              8 the thinned journal leads to another city, and wasn't taken
              9 something that was read isn't sent, or was refused; or the city
-               has no journal in etcd to fetch, or has one, and none is put
+               has no journal in etcd to fetch, or has one, and none is put; or
+               another process has come to serve it
             10 the server takes nothing by this access token, or etcd nothing
                from this user
 

@@ -1,5 +1,6 @@
 -- The file, folder or address that a fault is about.
 use Rattle.std.specs.Prelude.{ℕ, List, slice_get, Option, Some, None}
+use Rattle.cli_args.specs.Logs.{Home, in_folder, in_cluster}
 use Rattle.cli_args.specs.Commands.{Request, serve, check, check_config, audit, thin, report, stop}
 use Rattle.cli_journal.specs.declared.exit_cause.ExitCause.{ExitCause}
 use Rattle.cli_journal.specs.declared.exit_cause.ExitCause.TheVariants.{Misconfigured, NoOversight, NoPage, NoListener, NoControl, NotStopped, Folder, Refused, NotKept, NotWhole, NotThinned, Differs, NoArchive, NotArchived, ReportFolder, ReportEntry, Report}
@@ -7,7 +8,7 @@ use Rattle.cli_journal.specs.declared.report_fault.ReportFault.{ReportFault}
 use Rattle.cli_journal.specs.declared.report_fault.ReportFault.TheVariants.{NoFirst, NoLast, NoTime, NoOperator, NoFolder, Present, NotWritten}
 
 abbrev pub config_of : Request → Option (List ℕ)
-config_of (serve config state listen control control_host dropped thin_at archive) = Some config
+config_of (serve config home listen control control_host dropped thin_at archive) = Some config
 config_of (audit folder config until operator) = Some config
 config_of (thin folder config archive) = Some config
 config_of (check_config config) = Some config
@@ -15,17 +16,22 @@ config_of (report r) = Some r.config
 config_of asked = None
 
 abbrev pub listener_of : Request → Option (List ℕ)
-listener_of (serve config state listen control control_host dropped thin_at archive) = Some listen
+listener_of (serve config home listen control control_host dropped thin_at archive) = Some listen
 listener_of asked = None
 
 -- the address of the control port, which is served or whose server is stopped
 abbrev pub control_of : Request → Option (List ℕ)
-control_of (serve config state listen control control_host dropped thin_at archive) = control
+control_of (serve config home listen control control_host dropped thin_at archive) = control
 control_of (stop address) = Some address
 control_of asked = None
 
+-- the folder, or the city's name in etcd
+abbrev pub home_place : Home → List ℕ
+home_place (in_folder folder) = folder
+home_place (in_cluster place patience) = place.city
+
 abbrev pub folder_of : Request → Option (List ℕ)
-folder_of (serve config state listen control control_host dropped thin_at archive) = Some state
+folder_of (serve config home listen control control_host dropped thin_at archive) = Some (home_place home)
 folder_of (check folder) = Some folder
 folder_of (audit folder config until operator) = Some folder
 folder_of (thin folder config archive) = Some folder
@@ -33,7 +39,7 @@ folder_of asked = None
 
 -- the folder of archived journals
 abbrev pub archive_of : Request → Option (List ℕ)
-archive_of (serve config state listen control control_host dropped thin_at archive) = archive
+archive_of (serve config home listen control control_host dropped thin_at archive) = archive
 archive_of (thin folder config archive) = archive
 archive_of asked = None
 

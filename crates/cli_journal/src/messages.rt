@@ -6,7 +6,7 @@ ghost use Rattle.cli_journal.specs.Messages.{config_of, listener_of, control_of,
 use crate::exit_cause::ExitCause;
 use crate::operator_words::{report_name, report_operators};
 use crate::report_fault::ReportFault;
-use cli_args::{CliCommand, usage_of};
+use cli_args::{CityHome, CliCommand, usage_of};
 use cli_host::{ConfigHost, MessageHost};
 use journal_entry::Unfit;
 use journal_file::CutTail;
@@ -54,7 +54,10 @@ fn folder_of<'a>(asked: &CliCommand<'a>) -> Option<&'a str>
     ensures { option_map (λ place. place.now) result ≡ folder_of (asked_view asked.now) }
 {
     match asked {
-        CliCommand::Serve(service) => Some(service.state),
+        CliCommand::Serve(service) => match service.home {
+            CityHome::Folder(folder) => Some(folder),
+            CityHome::Cluster(place, _) => Some(place.city),
+        },
         CliCommand::Check(folder) => Some(*folder),
         CliCommand::Audit(audit) => Some(audit.folder),
         CliCommand::Thin(thinning) => Some(thinning.folder),

@@ -7,7 +7,7 @@ use Rattle.journal_cluster.specs.declared.fault.ClusterFault.TheVariants as clus
 use Rattle.cli_log.specs.declared.end.LogCommandEnd.{LogCommandEnd}
 use Rattle.cli_log.specs.declared.end.LogCommandEnd.TheVariants.{Done, NoAnswer, BadAnswer, NotPrinted, BadCluster}
 use Rattle.cli_log.specs.declared.end.LogCommandEnd.TheVariants.{BadCity, NoUser, NoMemory, Unusable, Present, NoJournal}
-use Rattle.cli_log.specs.declared.end.LogCommandEnd.TheVariants.{Locked, Damaged, NotWritten, NotSeeded, Unclaimed, Claimed, Barred}
+use Rattle.cli_log.specs.declared.end.LogCommandEnd.TheVariants.{Locked, Damaged, NotWritten, NotSeeded, Unclaimed, Claimed, Overtaken, WentBack, Barred}
 
 abbrev pub exit_status : LogCommandEnd → ℕ
 exit_status Done = 0
@@ -27,6 +27,8 @@ exit_status NotWritten = 7
 exit_status NotSeeded = 7
 exit_status Unclaimed = 9
 exit_status Claimed = 9
+exit_status Overtaken = 9
+exit_status WentBack = 5
 exit_status (Barred status) = 10
 
 -- 400 is what is asked without a user, or by a wrong password; 401 by a token that ended; 403 of others' keys

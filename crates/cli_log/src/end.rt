@@ -44,6 +44,10 @@ pub enum LogCommandEnd {
     Unclaimed,
     /// The city has a journal in the cluster.
     Claimed,
+    /// Another process has come to serve the city.
+    Overtaken,
+    /// The city's register in the cluster went back.
+    WentBack,
     /// The cluster lets this user do nothing there, or nobody without a user.
     Barred(u16),
 }
@@ -77,9 +81,9 @@ impl LogCommandEnd {
             | LogCommandEnd::Present
             | LogCommandEnd::NoJournal
             | LogCommandEnd::Locked => 4,
-            LogCommandEnd::Damaged => 5,
+            LogCommandEnd::Damaged | LogCommandEnd::WentBack => 5,
             LogCommandEnd::NotWritten | LogCommandEnd::NotSeeded => 7,
-            LogCommandEnd::Unclaimed | LogCommandEnd::Claimed => 9,
+            LogCommandEnd::Unclaimed | LogCommandEnd::Claimed | LogCommandEnd::Overtaken => 9,
             LogCommandEnd::Barred(_) => 10,
         }
     }
@@ -104,6 +108,8 @@ impl LogCommandEnd {
             LogCommandEnd::NotSeeded => "it isn't known whether the cluster has the journal",
             LogCommandEnd::Unclaimed => "the city has no journal in the cluster",
             LogCommandEnd::Claimed => "the city has a journal in the cluster",
+            LogCommandEnd::Overtaken => "another process has come to serve the city",
+            LogCommandEnd::WentBack => "the city's journal in the cluster went back",
             LogCommandEnd::Barred(_) => "the cluster lets this user do nothing there",
         }
     }

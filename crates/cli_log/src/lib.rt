@@ -2,6 +2,7 @@
 //! into a folder, and put a folder's journal there.
 #![tactic(auto)]
 
+mod cluster;
 mod end;
 mod fetch;
 mod folder;
@@ -11,9 +12,10 @@ mod run;
 mod seed;
 mod status;
 
+pub use cluster::CityCluster;
 pub use end::{LogCommandEnd, end_of_fault};
 pub use folder::UserFault;
 pub use host::LogHost;
 pub use place::{is_city, prefix_of};
-pub use run::run_log;
+pub use run::{report_log_end, run_log};
 pub use status::{LookPair, status_text};

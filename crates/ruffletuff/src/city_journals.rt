@@ -11,8 +11,8 @@ use std::io::Eprint;
 pub struct CityJournals<R> {
     /// The runtime, by which files are read and faults reported.
     rt: R,
-    /// The city's folder.
-    folder: String,
+    /// The city's folder; `None` where its journal stands in etcd, which tells of no moment of the past yet.
+    folder: Option<String>,
     /// The archive's folder; `None` where there is none.
     archive: Option<String>,
 }
@@ -26,16 +26,20 @@ impl<R: Drop> CityJournals<R> {
     pub fn new(
         rt: R,
         alloc: Global,
-        folder: &str,
+        folder: Option<&str>,
         archive: Option<&str>,
     ) -> Result<CityJournals<R>, AllocError> {
         let archive = match archive {
             Some(path) => Some(String::from_str(alloc, path)?),
             None => None,
         };
+        let folder = match folder {
+            Some(path) => Some(String::from_str(alloc, path)?),
+            None => None,
+        };
         Ok(CityJournals {
             rt,
-            folder: String::from_str(alloc, folder)?,
+            folder,
             archive,
         })
     }
@@ -48,7 +52,9 @@ impl<R: Folders + Eprint + Drop> PastJournals for CityJournals<R> {
     ghost tells = { λ journals at bytes. ⊤ };
 
     fn journal_at(&self, alloc: Global, at: Moment) -> Result<Option<Vec<u8>>, FolderFault> {
-        let folder = self.folder.as_str();
+        let Some(folder) = self.folder.as_deref() else {
+            return Ok(None);
+        };
         journal_at(&self.rt, alloc, folder, self.archive.as_deref(), at)
     }
 

@@ -2,21 +2,25 @@
 
 use crate::admin::AdminState;
 use crate::host::CommandHost;
-use crate::opening::{ConfigWithText, serve_city};
+use crate::owning::{ServeFault, serve_home};
+use crate::opening::ConfigWithText;
 use cli_args::ServeOptions;
 use cli_journal::ExitCause;
 use server_control::{ControlRuntime, Port, PortWaker, StopServer, serve_control};
 use server_http::ShutdownHandle;
 use server_journal::{ThreadJob, run_concurrently};
+use std::sync::atomic::{AtomicBool, Ordering};
 
 /// Stops a server by its shutdown handle.
 #[derive(Drop)]
 struct StopByHandle<'a> {
     closing: &'a ShutdownHandle,
+    stopped: &'a AtomicBool,
 }
 
 impl StopServer for StopByHandle<'_> {
     fn stop(&self) {
+        self.stopped.store(true, Ordering::SeqCst);
         self.closing.close();
     }
 }
@@ -37,6 +41,7 @@ impl<R: ControlRuntime + Drop> ThreadJob for ControlPortJob<'_, R> {
         let mut port = port;
         let stopping = StopByHandle {
             closing: board.closing,
+            stopped: board.stopped,
         };
         serve_control(&rt, &mut port, board.control, board.counters, &stopping);
     }
@@ -57,14 +62,14 @@ struct ControlledCity<'a> {
 fn serve_and_end<R: CommandHost>(
     rt: &R,
     controlled: ControlledCity<'_>,
-) -> (Result<(), ExitCause>, PortWaker) {
+) -> (Result<(), ServeFault>, PortWaker) {
     let ControlledCity {
         service,
         given,
         board,
         waker,
     } = controlled;
-    let served = serve_city(rt, service, given, board);
+    let served = serve_home(rt, service, given, board);
     board.control.end(&waker);
     (served, waker)
 }
@@ -81,12 +86,12 @@ pub fn serve_controlled<R: CommandHost>(
     address: &str,
     given: ConfigWithText<'_>,
     board: AdminState<'_>,
-) -> Result<(), ExitCause> {
+) -> Result<(), ServeFault> {
     let Ok(port) = Port::bind(rt, address, service.control_host) else {
-        return Err(ExitCause::NoControl);
+        return Err(ServeFault::Exit(ExitCause::NoControl));
     };
     let Ok(waker) = port.waker() else {
-        return Err(ExitCause::NoControl);
+        return Err(ServeFault::Exit(ExitCause::NoControl));
     };
     let controlling = ControlPortJob {
         rt: *rt,

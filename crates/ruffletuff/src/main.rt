@@ -5,6 +5,7 @@
 
 mod admin;
 mod arguments;
+mod beating;
 mod city_journals;
 mod controlling;
 mod counting;
@@ -12,6 +13,7 @@ mod host;
 mod journal_exit;
 mod listening;
 mod opening;
+mod owning;
 mod running;
 mod serving;
 

@@ -16,7 +16,7 @@ use cli_args::ServeOptions;
 use cli_config::Limits;
 use cli_host::FileHost;
 use cli_journal::{ExitCause, clear, ensure_compactions, journal_length, report_cut};
-use journal_commit::{Ballast, SharedLogName, UnnamedHistory};
+use journal_commit::{Ballast, Confirmation, SharedLogName, UnnamedHistory};
 use journal_compaction::AnswersAgree;
 use journal_file::{FileStorage, HasLogEnd, Journal, Log};
 use journal_folder::{CutFiles, Folder, FolderFault, Folders, begin_journal, open_folder};
@@ -47,7 +47,7 @@ fn count_bytes<R: FileHost>(rt: &R, folder: &str, counters: &Counters) {
 }
 
 /// How many threads serve a city on this machine.
-fn threads_for<R: Threads>(rt: &R, config: &Config) -> usize {
+pub fn threads_for<R: Threads>(rt: &R, config: &Config) -> usize {
     let processors = available_parallelism(rt).map_or(1, |n| n.get());
     workers(processors, config)
 }
@@ -107,6 +107,7 @@ impl CityOpening<'_> {
 pub fn serve_city<'a, R: CommandHost>(
     rt: &R,
     service: &'a ServeOptions<'a>,
+    state: &'a str,
     given: ConfigWithText<'a>,
     board: AdminState<'a>,
 ) -> Result<(), ExitCause> {
@@ -115,9 +116,9 @@ pub fn serve_city<'a, R: CommandHost>(
         lock: _lock,
         journal,
         ballast,
-    } = open_folder(rt, rt.alloc(), service.state)?;
+    } = open_folder(rt, rt.alloc(), state)?;
     let listening = listen(rt, service.listen, threads_for(rt, &config))?;
-    clear(rt, service.state);
+    clear(rt, state);
     let Ok(meeting) = Arc::new(
         rt.alloc(),
         Handoff::new(CompactionSchedule::new(service.thin_at)),
@@ -126,13 +127,13 @@ pub fn serve_city<'a, R: CommandHost>(
     };
     let thinner = Compactor {
         rt: *rt,
-        folder: service.state,
+        folder: state,
         archive: service.archive,
         config: text,
         meeting: &*meeting,
     };
     let opening = CityOpening {
-        folder: service.state,
+        folder: state,
         archive: service.archive,
         listening,
         dropped: service.dropped,
@@ -198,7 +199,8 @@ fn serve_with_swaps<B: CompactionSource<FileJournal, AnswersAgree> + Send, R: Fo
     };
     let dropped = dropped_ids(rt.alloc(), dropped)?;
     let stage = ServingParts {
-        folder,
+        folder: Some(folder),
+        confirmation: Confirmation::NotNeeded,
         archive,
         listening,
         dropped: &dropped,
@@ -206,7 +208,7 @@ fn serve_with_swaps<B: CompactionSource<FileJournal, AnswersAgree> + Send, R: Fo
         board,
     };
     let space = ReportingSpace::new(*rt, space);
-    serve_journal(rt, journal, beside, space, config, stage)
+    serve_journal(rt, folder, (journal, beside), space, config, stage)
 }
 
 /// Reads the journal of a folder, cuts off what wasn't synced, sees to it that what was compacted of it is recorded, and
@@ -217,8 +219,8 @@ fn serve_with_swaps<B: CompactionSource<FileJournal, AnswersAgree> + Send, R: Fo
 /// As `serve_city`.
 fn serve_journal<B: CompactionSource<FileJournal, AnswersAgree> + Send, S: SendSpace, R>(
     rt: &R,
-    journal: File,
-    beside: B,
+    folder: &str,
+    kept: (File, B),
     space: S,
     config: Config,
     stage: ServingParts<'_>,
@@ -227,14 +229,15 @@ where
     R: FolderHost,
     requires { S.aside space ≡ 0 }
 {
-    let mut aside = CutFiles::new(*rt, rt.alloc(), stage.folder)?;
+    let (journal, beside) = kept;
+    let mut aside = CutFiles::new(*rt, rt.alloc(), folder)?;
     let log = match Journal::recover(rt.alloc(), FileStorage::new(journal), &mut aside) {
         Ok(log) => log,
         Err(fault) => return Err(ExitCause::Folder(FolderFault::from(fault))),
     };
     report_cut(rt, log.cut());
-    count_bytes(rt, stage.folder, stage.board.counters);
-    ensure_compactions(rt, stage.folder)?;
+    count_bytes(rt, folder, stage.board.counters);
+    ensure_compactions(rt, folder)?;
     serve_swap_log(rt, log, beside, space, config, stage)
 }
 
@@ -243,7 +246,7 @@ where
 /// # Errors
 ///
 /// As `serve_opening`, and `NoMemory`.
-fn serve_swap_log<
+pub fn serve_swap_log<
     L: HasLogEnd + Send,
     B: CompactionSource<L, AnswersAgree> + Send,
     S: SendSpace,

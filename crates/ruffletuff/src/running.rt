@@ -7,14 +7,15 @@ use crate::arguments::read_words;
 use crate::controlling::serve_controlled;
 use crate::counting::counters_of;
 use crate::host::CommandHost;
-use crate::opening::{ConfigWithText, serve_city};
-use cli_args::{COMMIT, CliCommand, HELP, ServeOptions, VERSION, parse_command, version_line};
+use crate::opening::ConfigWithText;
+use crate::owning::{ServeFault, serve_home};
+use cli_args::{COMMIT, CityHome, CliCommand, HELP, ServeOptions, VERSION, parse_command, version_line};
 use cli_host::{ConfigHost, OutputHost};
 use cli_journal::{
     ConfigFile, ExitCause, audit, check, check_archive_of, compact, configuration_in,
     read_text_and_report, report_exit, report_usage,
 };
-use cli_log::run_log;
+use cli_log::{report_log_end, run_log};
 use cli_report_command::report;
 use cli_transfer::run_transfer;
 use server_control::{Control, ControlClientRuntime, stop};
@@ -23,6 +24,7 @@ use std::env::Env;
 use std::io::Print;
 use std::mem::drop;
 use std::sync::Arc;
+use std::sync::atomic::AtomicBool;
 
 /// The exit status of what was done.
 fn status_of(done: Result<u8, ExitCause>) -> u8
@@ -59,7 +61,7 @@ fn carry_out<R: CommandHost>(rt: &R, asked: &CliCommand<'_>) -> Result<u8, ExitC
     let done = match asked {
         CliCommand::Help => print_text(rt, HELP),
         CliCommand::Version => print_version(rt),
-        CliCommand::Serve(service) => serve(rt, service),
+        CliCommand::Serve(service) => return serve_and_report(rt, service),
         CliCommand::Check(folder) => check(rt, *folder),
         CliCommand::CheckConfig(path) => check_configuration(rt, *path),
         CliCommand::Audit(extract) => audit(rt, extract),
@@ -126,12 +128,28 @@ fn stop_server<R: ControlClientRuntime>(rt: &R, address: &str) -> Result<(), Exi
     }
 }
 
+/// Serves a city until it is to end, and gives the exit status. What keeps it from etcd is said on standard error.
+///
+/// # Errors
+///
+/// As `serve`.
+fn serve_and_report<R: CommandHost>(rt: &R, service: &ServeOptions<'_>) -> Result<u8, ExitCause> {
+    match (serve(rt, service), service.home) {
+        (Ok(()), _) => Ok(0),
+        (Err(ServeFault::Exit(cause)), _) => Err(cause),
+        (Err(ServeFault::Log(end)), CityHome::Cluster(place, _)) => {
+            Ok(report_log_end(rt, &place, None, end))
+        }
+        (Err(ServeFault::Log(end)), CityHome::Folder(_)) => Ok(end.status()),
+    }
+}
+
 /// Serves a city until it is to end, with a control port where one is asked for.
 ///
 /// # Errors
 ///
 /// The configuration's, the archive's, the control port's, or the fault with which the city can't be opened or its server ends.
-fn serve<R: CommandHost>(rt: &R, service: &ServeOptions<'_>) -> Result<(), ExitCause> {
+fn serve<R: CommandHost>(rt: &R, service: &ServeOptions<'_>) -> Result<(), ServeFault> {
     let text = read_text_and_report(rt, rt.alloc(), service.config)?;
     let config = configuration_in(rt.alloc(), &text)?;
     check_archive_of(rt, service.archive)?;
@@ -139,10 +157,12 @@ fn serve<R: CommandHost>(rt: &R, service: &ServeOptions<'_>) -> Result<(), ExitC
     let control = Control::new();
     let counters = counters_of(rt.alloc(), &closing, &config)?;
     let Ok(shared) = Arc::new(rt.alloc(), counters) else {
-        return Err(ExitCause::NoMemory);
+        return Err(ServeFault::Exit(ExitCause::NoMemory));
     };
+    let stopped = AtomicBool::new(false);
     let board = AdminState {
         closing: &closing,
+        stopped: &stopped,
         control: &control,
         counters: &*shared,
         shared: &shared,
@@ -153,7 +173,7 @@ fn serve<R: CommandHost>(rt: &R, service: &ServeOptions<'_>) -> Result<(), ExitC
         text: &text,
     };
     match service.control {
-        None => serve_city(rt, service, given, board),
+        None => serve_home(rt, service, given, board),
         Some(address) => serve_controlled(rt, service, address, given, board),
     }
 }

@@ -6,6 +6,7 @@ ghost use Rattle.ruffletuff.specs.Resumed.{AreResumed};
 ghost use Rattle.server_durable.specs.Owners.{client_in};
 
 use crate::admin::AdminState;
+use crate::beating::BeatJob;
 use crate::city_journals::CityJournals;
 use crate::counting::count_vehicles;
 use crate::host::{SendLog, SendSpace, ServerHost};
@@ -31,8 +32,10 @@ use std::sync::{Arc, Wait};
 /// What serving a city needs besides its state.
 #[derive(Drop)]
 pub struct ServingParts<'a> {
-    /// The city's folder.
-    pub folder: &'a str,
+    /// The city's folder; `None` where its journal stands in etcd.
+    pub folder: Option<&'a str>,
+    /// Whether each response waits until a round has shown that this process owns the journal.
+    pub confirmation: Confirmation,
     /// The folder in which its journals are archived; `None` for nowhere.
     pub archive: Option<&'a str>,
     /// The listener, and the threads that are to serve its connections.
@@ -168,14 +171,25 @@ where
         log,
         space,
         clients,
-        Confirmation::NotNeeded,
+        stage.confirmation,
     )?;
     let Ok(keeper) = Arc::new(alloc, keeper) else {
         return Err(ExitCause::NoMemory);
     };
     let badges = operator_names_in(alloc, stage.board.configuration)?;
+    let beating = BeatJob {
+        rt: *rt,
+        keeper: Arc::try_clone(&keeper)?,
+        nothing: keeper.log_position(&nothing),
+        is_needed: stage.confirmation == Confirmation::EachResponse,
+    };
     let city = DurableHall::new(alloc, hall, badges, Arc::try_clone(&keeper)?, nothing)?;
-    serve_durable_hall(rt, city, &*keeper, flusher, stage)
+    let ((), served) = run_concurrently(
+        rt,
+        beating,
+        move || serve_durable_hall(rt, city, &*keeper, flusher, stage),
+    );
+    served
 }
 
 /// Announces that a city is served, to the control port too, and whether everyone may read what is published.
