@@ -14,7 +14,7 @@ use crate::listening::{BoundListener, listen};
 use crate::serving::{ServingParts, persist_and_serve};
 use cli_args::ServeOptions;
 use cli_config::Limits;
-use cli_host::FileHost;
+use cli_host::{FileHost, MessageHost};
 use cli_journal::{ExitCause, clear, ensure_compactions, journal_length, report_cut};
 use journal_commit::{Ballast, SharedLogName, UnnamedHistory};
 use journal_compaction::{AnswersAgree, ConfigName, SharedConfigName};
@@ -35,7 +35,6 @@ use server_start::workers;
 use server_state::{Hall, HallName, SharedHallName, TurnLists};
 use std::alloc::{AllocGlobal, Global};
 use std::fs::File;
-use std::io::Print;
 use std::marker::Brand;
 use std::sync::{Arc, Wait};
 use std::thread::{Threads, available_parallelism};
@@ -424,7 +423,7 @@ where
 }
 
 /// Warns that the journal wasn't compared with what was answered, as where a connection outlasts the server.
-fn warn_not_compared<R: Print>(rt: &R, folder: &str) {
+fn warn_not_compared<R: MessageHost>(rt: &R, folder: &str) {
     let message = ExitCause::NotWhole.message();
     let _ = eprintln!(rt; "{message}: {folder}");
 }
